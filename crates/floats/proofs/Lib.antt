@@ -1,3 +1,5 @@
 pub mod Tests
 pub mod Order
 pub mod Zero
+pub mod Steps
+pub mod Whole

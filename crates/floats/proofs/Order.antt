@@ -24,7 +24,7 @@ chain A B C p q r h e f = le-of-mul-le-mul-right {k = q} (subst (λ (k : ℕ). k
     second : B * r * p ≤ C * p * q
     second = subst (λ (k : ℕ). B * r * p ≤ k) (swap C q p) (mul-le-mul-right p f)
 
-zero-of : (a q : ℕ) → 0 < q → a * q ≡ 0 → a ≡ 0
+pub zero-of : (a q : ℕ) → 0 < q → a * q ≡ 0 → a ≡ 0
 zero-of zero q h e = refl
 zero-of (suc a) q h e = let p : 0 < suc a * q = mul-pos {m = suc a} {n = q} (let z : 0 < suc a = omega arith in z) h in absurd (omega arith)
 
