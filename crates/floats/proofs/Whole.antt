@@ -45,7 +45,7 @@ of-int (pos n) h = at-round false n (pos n) refl h
 of-int (negsuc n) h = at-round true (suc n) (negsuc n) refl h
 
 -- ---- sums
-difference : (a b : ℕ) → pos a +ℤ negℤ (pos b) ≡ cond (ltb a b) (negℤ (pos (b - a))) (pos (a - b))
+pub difference : (a b : ℕ) → pos a +ℤ negℤ (pos b) ≡ cond (ltb a b) (negℤ (pos (b - a))) (pos (a - b))
 difference a zero = rw (le-ltb a 0 (omega arith)) (ap pos (omega arith))
 difference a (suc b) = go (ltb a (suc b)) refl
   where
@@ -156,7 +156,7 @@ le-lt a b = go (ltb b a) refl
     go true e = sym (lt-leb a b (ltb-true b a e))
     go false e = sym (le-leb a b (ltb-false b a e))
 
-leZ-ltZ : (z w : ℤ) → not (ltZ w z) ≡ leZ z w
+pub leZ-ltZ : (z w : ℤ) → not (ltZ w z) ≡ leZ z w
 leZ-ltZ (pos a) (pos b) = le-lt a b
 leZ-ltZ (pos a) (negsuc b) = refl
 leZ-ltZ (negsuc a) (pos b) = refl

@@ -1,0 +1,5 @@
+pub mod Nan
+pub mod Integers
+pub mod Exact
+pub mod Apart
+pub mod Examples

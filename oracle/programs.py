@@ -1,0 +1,46 @@
+"""The three programs: where they are, and what they answer to a list of requests."""
+
+import os
+import subprocess
+import sys
+from pathlib import Path
+
+from requests import CALLS
+
+HERE = Path(__file__).resolve().parent
+OUT = Path(os.environ.get("ORACLE_OUT", HERE.parent / "target" / "oracle"))
+COMMANDS = {
+    "second": [sys.executable, "-B", str(HERE / "second" / "main.py")],
+    "rust": [str(OUT / "rust" / "answers")],
+    "port": [str(HERE / "port")],
+}
+NEEDS = {"second": COMMANDS["second"][-1], "rust": COMMANDS["rust"][0], "port": HERE.parent / "target/bin/answers"}
+MAKES = {"second": "it belongs here", "rust": "oracle/build makes it", "port": "rt check answers makes it (or --without-port)"}
+ENDED = "no answer"
+
+
+def ask(program, lines):
+    """The program's answers; where it ends early, the list ends with a word on that."""
+    if not os.path.exists(NEEDS[program]):
+        sys.exit("no %s; %s" % (NEEDS[program], MAKES[program]))
+    folder = OUT / "compare"
+    folder.mkdir(parents=True, exist_ok=True)
+    asked, said = folder / (program + ".asked"), folder / (program + ".said")
+    asked.write_bytes("".join(line + "\n" for line in lines).encode("latin-1"))
+    with open(asked) as source, open(said, "w") as sink:
+        status = subprocess.run(COMMANDS[program], stdin=source, stdout=sink).returncode
+    answers = said.read_bytes().decode("latin-1").split("\n")
+    rest = answers.pop()
+    if len(answers) < len(lines):
+        answers.append("%s (status %d) %s" % (ENDED, status, rest))
+    elif status or rest or len(answers) > len(lines):
+        sys.exit("%s: status %d, %d answers to %d requests" % (program, status, len(answers), len(lines)))
+    return answers
+
+
+def rust_can_answer(line, answer):
+    """Whether the Rust is asked: not what the second program refuses, nor what is no request."""
+    call = CALLS.get(line.split(" ", 1)[0])
+    if call is None or answer == "?" or answer.startswith(ENDED):
+        return False
+    return not call.numbered or answer.startswith("0 ")

@@ -1,0 +1,34 @@
+"""The second program: document 01 in Python, a request a line in, an answer a line out."""
+
+import sys
+
+import boxes
+import floats
+from words import Fault, Request
+
+# a module of document 01 is a file; its requests are added here
+ANSWERS = {**floats.ANSWERS, **boxes.ANSWERS}
+
+
+def answer(line):
+    if not line:
+        return ""
+    try:
+        request = Request(line)
+        if request.name not in ANSWERS:
+            raise Fault
+        return ANSWERS[request.name](request)
+    except Fault:
+        return "?"
+
+
+def main():
+    # any byte may come; only \n ends a line
+    sys.stdin.reconfigure(encoding="latin-1", newline="\n")
+    write = sys.stdout.write
+    for line in sys.stdin:
+        write(answer(line.rstrip("\n")) + "\n")
+
+
+if __name__ == "__main__":
+    main()

@@ -1,0 +1,73 @@
+"""The words of the protocol: reading a request's and writing an answer's."""
+
+import re
+import struct
+
+NAN = struct.unpack(">d", bytes.fromhex("7ff8000000000000"))[0]
+LONGEST_RUN = 8192
+
+_NAME = re.compile("[a-z_0-9]+")
+_COUNT = re.compile(" 0*([0-9]+)")
+_FLOATS = re.compile("(?: [0-9a-f]{16})*")
+
+
+class Fault(Exception):
+    """The line does not say a request."""
+
+
+class Request:
+    """A line, read word by word from the left."""
+
+    def __init__(self, line):
+        name = _NAME.match(line)
+        if name is None:
+            raise Fault
+        self.line = line
+        self.name = name.group()
+        self.at = name.end()
+
+    def floats(self, count):
+        end = self.at + 17 * count
+        text = self.line[self.at:end]
+        if len(text) != 17 * count or _FLOATS.fullmatch(text) is None:
+            raise Fault
+        self.at = end
+        return struct.unpack(">%dd" % count, bytes.fromhex(text))
+
+    def count(self):
+        found = _COUNT.match(self.line, self.at)
+        if found is None or len(found.group(1)) > 9:
+            raise Fault
+        self.at = found.end()
+        return int(found.group(1))
+
+    def run(self):
+        count = self.count()
+        if count > LONGEST_RUN:
+            raise Fault
+        return self.floats(count)
+
+    def end(self):
+        if self.at != len(self.line):
+            raise Fault
+
+
+def computed(x):
+    """A computed float as it is written: one NaN, and a zero without its sign."""
+    return 0.0 + x if x == x else NAN
+
+
+def kept(x):
+    """A float that a call left alone: one NaN, a zero with its sign."""
+    return x if x == x else NAN
+
+
+def float_word(x):
+    return struct.pack(">d", x).hex()
+
+
+def run_words(floats):
+    if not floats:
+        return "0"
+    packed = struct.pack(">%dd" % len(floats), *floats)
+    return "%d %s" % (len(floats), packed.hex(" ", 8))
