@@ -4,10 +4,11 @@ import sys
 
 import boxes
 import floats
+import search
 from words import Fault, Request
 
 # a module of document 01 is a file; its requests are added here
-ANSWERS = {**floats.ANSWERS, **boxes.ANSWERS}
+ANSWERS = {**floats.ANSWERS, **boxes.ANSWERS, **search.ANSWERS}
 
 
 def answer(line):

@@ -5,6 +5,7 @@ import struct
 
 NAN = struct.unpack(">d", bytes.fromhex("7ff8000000000000"))[0]
 LONGEST_RUN = 8192
+LARGEST_WHOLE = 2 ** 64 - 1
 
 _NAME = re.compile("[a-z_0-9]+")
 _COUNT = re.compile(" 0*([0-9]+)")
@@ -34,18 +35,16 @@ class Request:
         self.at = end
         return struct.unpack(">%dd" % count, bytes.fromhex(text))
 
-    def count(self):
+    def whole(self, most=LARGEST_WHOLE):
         found = _COUNT.match(self.line, self.at)
-        if found is None or len(found.group(1)) > 9:
+        # the length first: a word may have any number of digits
+        if found is None or len(found.group(1)) > 20 or int(found.group(1)) > most:
             raise Fault
         self.at = found.end()
         return int(found.group(1))
 
     def run(self):
-        count = self.count()
-        if count > LONGEST_RUN:
-            raise Fault
-        return self.floats(count)
+        return self.floats(self.whole(LONGEST_RUN))
 
     def end(self):
         if self.at != len(self.line):
@@ -71,3 +70,7 @@ def run_words(floats):
         return "0"
     packed = struct.pack(">%dd" % len(floats), *floats)
     return "%d %s" % (len(floats), packed.hex(" ", 8))
+
+
+def whole_run_words(numbers):
+    return " ".join(map(str, [len(numbers), *numbers]))

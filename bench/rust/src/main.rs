@@ -1,0 +1,10 @@
+//! The port beside the Rust, in one process: the same inputs, both built for release, five rounds.
+
+mod boxes;
+mod port;
+mod rounds;
+
+fn main() {
+    rounds::heading();
+    boxes::bench();
+}
