@@ -9,6 +9,7 @@ FEW = 200
 SIMPLE = [word(x) for x in (0.0, 1.0, 2.0, 3.0)]
 PLAIN_BOX = [SIMPLE[0], SIMPLE[0], SIMPLE[1], SIMPLE[1]]
 QUIET_NAN = "7ff8000000000000"
+RUNS = "run", "boxes", "matrix"
 
 
 def smaller(line):
@@ -21,17 +22,24 @@ def smaller(line):
         return
     name, kinds = words[0], CALLS[words[0]].arguments.split()
 
-    def with_argument(i, floats):
-        parts = [run(f) if kind in ("run", "boxes") else " ".join(f)
-                 for kind, f in zip(kinds, arguments[:i] + [floats] + arguments[i + 1:])]
+    def with_argument(i, *new):
+        """The request with new arguments from the i-th on."""
+        parts = [run(f) if kind in RUNS else " ".join(f)
+                 for kind, f in zip(kinds, arguments[:i] + list(new) + arguments[i + len(new):])]
         return " ".join([name, *parts])
 
     for i, kind in enumerate(kinds):
-        if kind in ("run", "boxes"):
+        if kind == "matrix":
+            # the two arguments before a matrix are its sides
+            for rows, columns, entries in _less_of_matrix(*arguments[i - 2:i + 1]):
+                yield with_argument(i - 2, [str(rows)], [str(columns)], entries)
+        elif kind in RUNS:
             for floats in _shorter(arguments[i], 4 if kind == "boxes" else 1):
                 yield with_argument(i, floats)
     many = sum(map(len, arguments)) > FEW
     for i, (kind, floats) in enumerate(zip(kinds, arguments)):
+        if kind == "whole":
+            continue
         if many:
             plain = (PLAIN_BOX if kind == "boxes" else SIMPLE[:1]) * len(floats)
             if floats != plain[:len(floats)]:
@@ -43,21 +51,23 @@ def smaller(line):
 
 
 def _arguments(words):
-    """The floats of each argument, or None where the line says no request."""
+    """The words of each argument, or None where the line says no request."""
     call = CALLS.get(words[0])
     if call is None:
         return None
     at, arguments = 1, []
     for kind in call.arguments.split():
-        count = {"float": 1, "box": 4}.get(kind)
+        count = {"float": 1, "box": 4, "whole": 1}.get(kind)
         if count is None:
             if at >= len(words) or not words[at].isdigit():
                 return None
             count, at = int(words[at]), at + 1
         arguments.append(words[at:at + count])
         at += count
-    good = at == len(words) and all(re.fullmatch("[0-9a-f]{16}", w) for a in arguments for w in a)
-    return arguments if good else None
+    def good(kind, said):
+        return all(re.fullmatch("[0-9]+" if kind == "whole" else "[0-9a-f]{16}", w) for w in said)
+    right = at == len(words) and all(map(good, call.arguments.split(), arguments))
+    return arguments if right else None
 
 
 def _shorter(floats, unit):
@@ -70,6 +80,25 @@ def _shorter(floats, unit):
         for start in range(0, units, block):
             yield floats[:start * unit] + floats[(start + block) * unit:]
         block //= 2
+
+
+def _less_of_matrix(rows, columns, entries):
+    """The matrix without a block of its rows or of its columns; one of the wrong length gets shorter as a run."""
+    rows, columns = int(rows[0]), int(columns[0])
+    if rows * columns != len(entries) or not entries:
+        for side in (0, 1, 2, 64, 65):
+            if side < rows:
+                yield side, columns, entries
+            if side < columns:
+                yield rows, side, entries
+        for shorter in _shorter(entries, 1):
+            yield rows, columns, shorter
+        return
+    lines = [entries[i * columns:(i + 1) * columns] for i in range(rows)]
+    for kept in _shorter(list(range(rows)), 1):
+        yield len(kept), columns, [x for i in kept for x in lines[i]]
+    for kept in _shorter(list(range(columns)), 1):
+        yield rows, len(kept), [line[j] for line in lines for j in kept]
 
 
 def _simpler(text):

@@ -71,12 +71,13 @@ fn intersection(box1: Box, box2: Box) -> f64
     rectangle(x_min_inter, y_min_inter, x_max_inter, y_max_inter)
 }
 
-// The distance of two boxes that are not refused.
-pub fn box_distance(box1: Box, box2: Box) -> f64
+// The distance of two boxes that are not refused, with their areas at hand: a matrix takes each box's area once.
+pub fn box_distance(box1: Box, area1: f64, box2: Box, area2: f64) -> f64
+    requires { ⌜ (area1 ≡ areaOf box1) × (area2 ≡ areaOf box2) ⌝ }
     ensures { λ r. ⌜ r ≡ distanceOf box1 box2 ⌝ }
 {
     let inter = intersection(box1, box2);
-    let union = area(box1) + area(box2) - inter;
+    let union = area1 + area2 - inter;
     if union == 0.0 {
         return 1.0;
     }
@@ -93,7 +94,7 @@ pub fn iou_distance(box1: Box, box2: Box) -> Distance
     if is_bad(box2) {
         return Distance::Refused;
     }
-    Distance::Value(box_distance(box1, box2))
+    Distance::Value(box_distance(box1, area(box1), box2, area(box2)))
 }
 
 // A side clamped at 0: max(side, 0.0) by one comparison.
@@ -111,11 +112,19 @@ fn shared(box1: Box, box2: Box) -> f64
     clamp(inter_w) * clamp(inter_h)
 }
 
+// The share of two boxes, with their areas at hand.
+pub fn box_share(box1: Box, area1: f64, box2: Box, area2: f64) -> f64
+    requires { ⌜ (area1 ≡ areaOf box1) × (area2 ≡ areaOf box2) ⌝ }
+    ensures { λ r. ⌜ r ≡ iouShareOf box1 box2 ⌝ }
+{
+    let inter = shared(box1, box2);
+    let union = area1 + area2 - inter;
+    if union > 0.0 { inter / union } else { 0.0 }
+}
+
 // What iou_matrix has for two boxes: the intersection's share of the union, and 0.0 where the union is not above 0.
 pub fn iou_share(box1: Box, box2: Box) -> f64
     ensures { λ r. ⌜ r ≡ iouShareOf box1 box2 ⌝ }
 {
-    let inter = shared(box1, box2);
-    let union = area(box1) + area(box2) - inter;
-    if union > 0.0 { inter / union } else { 0.0 }
+    box_share(box1, area(box1), box2, area(box2))
 }

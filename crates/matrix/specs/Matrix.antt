@@ -1,11 +1,12 @@
 -- Document 01, "Boxes": the two matrices over lent runs of box floats, and their numbers from "Numbers given back".
 use mathlib.Core.Bool.{Bool, false, cond, not, _||_, _&&_}
 use mathlib.Core.List.{List, [], _∷_, _++_}
-use Prim.Native.Nat.{ℕ, zero, suc, _+_, _*_, _/_, _%_}
+use mathlib.Core.Path.{_≡_}
+use Prim.Native.Nat.{ℕ, zero, suc, _+_, _*_, _/_, _%_, _<_}
 use lib.Dec.{ltb, eqb}
 use lib.ListN.{length, getD, drop}
 use lib.Ieee.{Float, nan}
-use Rattle.iou.specs.Boxes.{badBox, distanceOf, iouShareOf}
+use Rattle.iou.specs.Boxes.{badBox, areaOf, distanceOf, iouShareOf}
 use Rattle.iou.specs.declared.Box.{Box}
 use Rattle.matrix.specs.declared.Measure.{Measure}
 use Rattle.matrix.specs.declared.Measure.the-variants.{Away, Shared}
@@ -24,6 +25,10 @@ boxAt run i =
       «x_max» = getD run (4 * i + 2) nan;
       «y_max» = getD run (4 * i + 3) nan;
     }
+
+-- the first n places are the areas of the first n boxes
+abbrev pub AreasOf : List Float → List Float → ℕ → Type 0
+AreasOf run areas n = (j : ℕ) → j < n → getD areas j nan ≡ areaOf (boxAt run j)
 
 -- the row of box a: its measures to the first n boxes of the run
 unfoldable pub rowOf : Measure → Box → List Float → ℕ → List Float

@@ -3,10 +3,12 @@
 ghost use mathlib.Core.Path.{_≡_};
 ghost use Prim.Native.Nat.{_+_, _*_, _/_, _<_, _≤_};
 ghost use lib.ListN.{length};
-ghost use Rattle.matrix.specs.Matrix.{boxAt, anyBad, measuredOf, rowOf, matrixOf, overwrite, shapeNo, roomNo, anyReadBad, distanceMatrixNo, iouMatrixNo, matrixAfter};
+ghost use Rattle.iou.specs.Boxes.{areaOf};
+ghost use Rattle.matrix.specs.Matrix.{AreasOf, boxAt, anyBad, measuredOf, rowOf, matrixOf, overwrite, shapeNo, roomNo, anyReadBad, distanceMatrixNo, iouMatrixNo, matrixAfter};
 use iou::Box;
+use iou::area;
 use iou::box_distance;
-use iou::iou_share;
+use iou::box_share;
 use iou::is_bad;
 
 // Which matrix is written.
@@ -15,12 +17,13 @@ pub enum Measure {
     Shared,
 }
 
-fn measured(m: Measure, a: Box, b: Box) -> f64
+fn measured(m: Measure, a: Box, area_a: f64, b: Box, area_b: f64) -> f64
+    requires { ⌜ («area_a» ≡ areaOf a) × («area_b» ≡ areaOf b) ⌝ }
     ensures { λ r. ⌜ r ≡ measuredOf m a b ⌝ }
 {
     match m {
-        Measure::Away => box_distance(a, b),
-        Measure::Shared => iou_share(a, b),
+        Measure::Away => box_distance(a, area_a, b, area_b),
+        Measure::Shared => box_share(a, area_a, b, area_b),
     }
 }
 
@@ -53,15 +56,29 @@ fn any_bad(run: &[f64]) -> bool
     false
 }
 
-// One row: the first places of out are a's measures to the boxes of run.
-fn write_row(m: Measure, a: Box, run: &[f64], out: &mut [f64])
-    requires { ⌜ length (now run) / 4 ≤ length (now out) ⌝ }
-    ensures { λ _. ⌜ now (out .exit) ≡ overwrite (rowOf m a (now (run .entry)) (length (now (run .entry)) / 4)) (now (out .entry)) ⌝ }
+// The area of every box of the run, each taken once.
+fn write_areas(run: &[f64], areas: &mut [f64; 64])
+    requires { ⌜ (length (now run) / 4 ≤ 64) × (length (now areas) ≡ 64) ⌝ }
+    ensures { λ _. ⌜ AreasOf (now (run .entry)) (now (areas .exit)) (length (now (run .entry)) / 4) ⌝ }
 {
     let n = run.len() / 4;
     let mut j = 0;
     while j < n {
-        out[j] = measured(m, a, box_at(run, j));
+        areas[j] = area(box_at(run, j));
+        j += 1;
+    }
+}
+
+// One row: the first places of out are a's measures to the boxes of run.
+fn write_row(m: Measure, a: Box, run: &[f64], areas: &[f64; 64], out: &mut [f64])
+    requires { ⌜ (length (now run) / 4 ≤ length (now out)) × (length (now run) / 4 ≤ 64) × AreasOf (now run) (now areas) (length (now run) / 4) ⌝ }
+    ensures { λ _. ⌜ now (out .exit) ≡ overwrite (rowOf m a (now (run .entry)) (length (now (run .entry)) / 4)) (now (out .entry)) ⌝ }
+{
+    let n = run.len() / 4;
+    let area_a = area(a);
+    let mut j = 0;
+    while j < n {
+        out[j] = measured(m, a, area_a, box_at(run, j), areas[j]);
         j += 1;
     }
 }
@@ -73,12 +90,14 @@ fn write_rows(m: Measure, gt: &[f64], pred: &[f64], out: &mut [f64])
     requires { ⌜ length (now pred) / 4 ≤ 64 ⌝ }
     ensures { λ _. ⌜ now (out .exit) ≡ overwrite (matrixOf m (now (gt .entry)) (now (pred .entry)) (length (now (gt .entry)) / 4)) (now (out .entry)) ⌝ }
 {
+    let mut areas = [0.0; 64];
+    write_areas(pred, &mut areas);
     let rows = gt.len() / 4;
     let cols = pred.len() / 4;
     let mut i = 0;
     let mut at = 0;
     while i < rows {
-        write_row(m, box_at(gt, i), pred, &mut out[at..]);
+        write_row(m, box_at(gt, i), pred, &areas, &mut out[at..]);
         at += cols;
         i += 1;
     }

@@ -5,7 +5,11 @@ ghost use Rattle.matrix.specs.Matrix.{distanceMatrixNo, iouMatrixNo, matrixAfte
 ghost use Rattle.matrix.specs.declared.Measure.the-variants.{Away, Shared};
 
 #[no_mangle]
-pub extern "C" fn mot_compute_iou_distance_matrix(gt_bboxes: &[f64], pred_bboxes: &[f64], out: &mut [f64]) -> u32
+pub extern "C" fn mot_compute_iou_distance_matrix(
+    gt_bboxes: &[f64],
+    pred_bboxes: &[f64],
+    out: &mut [f64],
+) -> u32
     ensures number { λ r. ⌜ r ≡ distanceMatrixNo (now («gt_bboxes» .entry)) (now («pred_bboxes» .entry)) (length (now (out .entry))) ⌝ }
     ensures written { λ r. ⌜ now (out .exit) ≡ matrixAfter Away r (now («gt_bboxes» .entry)) (now («pred_bboxes» .entry)) (now (out .entry)) ⌝ }
 {

@@ -2,6 +2,7 @@
 
 mod boxes;
 mod floats;
+mod search;
 mod words;
 
 use std::collections::HashMap;
@@ -13,7 +14,7 @@ use words::Request;
 type Answer = fn(&mut Request) -> Option<String>;
 
 /// A module of document 01 is a file; its requests are added here.
-const ANSWERS: &[&[(&str, Answer)]] = &[floats::ANSWERS, boxes::ANSWERS];
+const ANSWERS: &[&[(&str, Answer)]] = &[floats::ANSWERS, boxes::ANSWERS, search::ANSWERS];
 
 fn main() {
     // a panic is an answer, and a difference: the Rust is asked only what it can answer

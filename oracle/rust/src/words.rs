@@ -68,3 +68,11 @@ pub fn run_words(floats: &[f64]) -> String {
     }
     text
 }
+
+pub fn whole_run_words(numbers: &[usize]) -> String {
+    let mut text = numbers.len().to_string();
+    for n in numbers {
+        write!(text, " {n}").expect("a string takes every word");
+    }
+    text
+}

@@ -1,5 +1,4 @@
 -- `iou::box_distance` meets its contract: an intersection that is right for numbers serves. Assumes nothing.
-
 use borrow.Author.Needs.{needs}
 use lib.Ieee.{ofBits}
 use Rattle.iou.specs.Boxes.{awayOf, unionOf}
@@ -10,35 +9,27 @@ use Rattle.iou.proofs.box_distance.Tie as tie
 intersection-requires : tie.Need-intersection-requires
 intersection-requires c κs = search needs
 
-area-requires : tie.Need-area-requires
-area-requires c κs = search needs
-
-area-requires-2 : tie.Need-area-requires-2
-area-requires-2 c κs = search needs
-
 returns : tie.Need-returns
 unfolding awayOf unionOf ofBits
 returns c =
-    let first = c .before .before .before in
-    let args = first .before .args in
+    let args = c .before .before .args in
     rw (
-      ← quick-distance (args .box1) (args .box2) (first .intersection .result) (first .intersection .ensures),
-      ← c .before .before .area .ensures,
-      ← c .before .area2 .ensures,
+      ← quick-distance (args .box1) (args .box2) (c .before .intersection .result) (c .before .intersection .ensures),
+      ← c .before .before .pre .0,
+      ← c .before .before .pre .1,
       c .if1 .taken,
     )
 
 returns-2 : tie.Need-returns-2
 unfolding awayOf unionOf ofBits
 returns-2 c =
-    let first = c .before .before .before in
-    let args = first .before .args in
+    let args = c .before .before .args in
     rw (
-      ← quick-distance (args .box1) (args .box2) (first .intersection .result) (first .intersection .ensures),
-      ← c .before .before .area .ensures,
-      ← c .before .area2 .ensures,
+      ← quick-distance (args .box1) (args .box2) (c .before .intersection .result) (c .before .intersection .ensures),
+      ← c .before .before .pre .0,
+      ← c .before .before .pre .1,
       c .if1 .left,
     )
 
 pub box-distance-spec : {M : Type 1} → statement M
-box-distance-spec = tie.close (tie.spec intersection-requires area-requires area-requires-2 returns returns-2)
+box-distance-spec = tie.close (tie.spec intersection-requires returns returns-2)

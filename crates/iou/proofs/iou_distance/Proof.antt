@@ -18,19 +18,36 @@ returns-2 : tie.Need-returns-2
 unfolding iouDistanceOf
 returns-2 c = rw (← c .before .before .before .is-bad .ensures, c .before .before .if1 .left, ← c .before .is-bad2 .ensures, c .if2 .taken)
 
+area-requires : tie.Need-area-requires
+area-requires c κs = search needs
+
+area-requires-2 : tie.Need-area-requires-2
+area-requires-2 c κs = search needs
+
 box-distance-requires : tie.Need-box-distance-requires
 box-distance-requires c κs = search needs
 
 returns-3 : tie.Need-returns-3
 unfolding iouDistanceOf
 returns-3 c =
+    let tested = c .before .before .before in
     rw (
-      ← c .before .before .before .before .is-bad .ensures,
-      c .before .before .before .if1 .left,
-      ← c .before .before .is-bad2 .ensures,
-      c .before .if2 .left,
+      ← tested .before .before .before .is-bad .ensures,
+      tested .before .before .if1 .left,
+      ← tested .before .is-bad2 .ensures,
+      tested .if2 .left,
       c .box-distance .ensures,
     )
 
 pub iou-distance-spec : {M : Type 1} → statement M
-iou-distance-spec = tie.close (tie.spec is-bad-requires returns is-bad-requires-2 returns-2 box-distance-requires returns-3)
+iou-distance-spec =
+    tie.close
+    (tie.spec
+    is-bad-requires
+    returns
+    is-bad-requires-2
+    returns-2
+    area-requires
+    area-requires-2
+    box-distance-requires
+    returns-3)

@@ -1,3 +1,4 @@
+-- `matrix::measured` meets its contract. Assumes nothing.
 use borrow.Author.Needs.{needs}
 use Rattle.matrix.proofs.measured.Statement.{statement}
 use Rattle.matrix.proofs.measured.Tie as tie
@@ -11,8 +12,8 @@ box-distance-requires c κs = search needs
 enum-told-2 : tie.Need-enum-told-2
 enum-told-2 c = search needs
 
-iou-share-requires : tie.Need-iou-share-requires
-iou-share-requires c κs = search needs
+box-share-requires : tie.Need-box-share-requires
+box-share-requires c κs = search needs
 
 returns : tie.Need-returns
 returns c = cc
@@ -23,4 +24,4 @@ returns-2 c = cc
 pub measured-spec : {M : Type 1} → statement M
 measured-spec =
     tie.close
-    (tie.spec enum-told box-distance-requires enum-told-2 iou-share-requires returns returns-2)
+    (tie.spec enum-told box-distance-requires enum-told-2 box-share-requires returns returns-2)
