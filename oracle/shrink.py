@@ -109,19 +109,19 @@ def _simpler(text):
     else:
         tries.append(text[:3] + "0" * 13)
         if abs(x) < 2.0 ** 53:
-            tries.append(word(float(int(x))))
+            tries += [word(float(int(x))), word(float(int(x / 10)))]
     return [t for t in tries if _weight(t) < _weight(text)]
 
 
 def _weight(text):
     if text in SIMPLE:
-        return SIMPLE.index(text)
+        return SIMPLE.index(text), 0.0
     x = value(text)
     if text == QUIET_NAN:
-        return 4
+        return 4, 0.0
     if abs(x) < 2.0 ** 53 and x == int(x):
-        return 5
-    return 6 if text.endswith("0" * 13) else 7
+        return 5, abs(x)
+    return 6 if text.endswith("0" * 13) else 7, 0.0
 
 
 def as_numbers(line):

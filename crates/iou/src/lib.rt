@@ -117,9 +117,13 @@ pub fn box_share(box1: Box, area1: f64, box2: Box, area2: f64) -> f64
     requires { ⌜ (area1 ≡ areaOf box1) × (area2 ≡ areaOf box2) ⌝ }
     ensures { λ r. ⌜ r ≡ iouShareOf box1 box2 ⌝ }
 {
-    let inter = shared(box1, box2);
-    let union = area1 + area2 - inter;
-    if union > 0.0 { inter / union } else { 0.0 }
+    let inter_area = shared(box1, box2);
+    let union_area = area1 + area2 - inter_area;
+    if union_area > 0.0 {
+        inter_area / union_area
+    } else {
+        0.0
+    }
 }
 
 // What iou_matrix has for two boxes: the intersection's share of the union, and 0.0 where the union is not above 0.

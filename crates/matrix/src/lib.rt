@@ -62,10 +62,10 @@ fn write_areas(run: &[f64], areas: &mut [f64; 64])
     ensures { λ _. ⌜ AreasOf (now (run .entry)) (now (areas .exit)) (length (now (run .entry)) / 4) ⌝ }
 {
     let n = run.len() / 4;
-    let mut j = 0;
-    while j < n {
-        areas[j] = area(box_at(run, j));
-        j += 1;
+    let mut k = 0;
+    while k < n {
+        areas[k] = area(box_at(run, k));
+        k += 1;
     }
 }
 

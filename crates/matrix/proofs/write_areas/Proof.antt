@@ -1,4 +1,4 @@
--- `matrix::write_areas` meets its contract. The invariant: the places before j hold their boxes' areas. Assumes nothing.
+-- `matrix::write_areas` meets its contract. The invariant: the places before k hold their boxes' areas. Assumes nothing.
 use mathlib.Core.Path.{_≡_, ap, _∙_}
 use Prim.Native.Nat.{_≤_, _<_, _-_}
 use native.Mathlib.Nat.{le-antisymm}
@@ -12,10 +12,10 @@ use Rattle.matrix.proofs.write_areas.Statement.{statement}
 use Rattle.matrix.proofs.write_areas.Tie as tie
 
 abbrev Inv-loop : tie.InvT-loop
-Inv-loop run areas₀ n j₀ areas j = (j ≤ n) × (length areas ≡ 64) × AreasOf run areas j
+Inv-loop run areas₀ n k₀ areas k = (k ≤ n) × (length areas ≡ 64) × AreasOf run areas k
 
 abbrev μ-loop : tie.MeasureT-loop
-μ-loop run areas₀ n j₀ areas j = n - j
+μ-loop run areas₀ n k₀ areas k = n - k
 
 loop-holds : tie.Need-loop-holds Inv-loop μ-loop
 loop-holds c = (omega arith, c .before .pre .1, λ i l. absurd (omega arith))
@@ -32,8 +32,8 @@ mul-areas c = search needs
 element-write-areas : tie.Need-element-write-areas Inv-loop μ-loop
 element-write-areas c = search needs
 
-add-j : tie.Need-add-j Inv-loop μ-loop
-add-j c = search needs
+add-k : tie.Need-add-k Inv-loop μ-loop
+add-k c = search needs
 
 loop-less : tie.Need-loop-less Inv-loop μ-loop
 loop-less c = search needs
@@ -41,7 +41,7 @@ loop-less c = search needs
 loop-again : tie.Need-loop-again Inv-loop μ-loop
 loop-again c =
     let at-loop = c .before .before .before in
-    let small : at-loop .loop .j < length (at-loop .loop .areas) = omega arith in
+    let small : at-loop .loop .k < length (at-loop .loop .areas) = omega arith in
     (omega arith, simp length-set (omega arith), areas-more (at-loop .before .before .args .run .now) (at-loop .loop .areas) _ _ (at-loop .loop .inv .2) small (c .area .ensures ∙ ap areaOf (c .before .box-at .ensures)))
 
 returns : tie.Need-returns Inv-loop μ-loop
@@ -58,7 +58,7 @@ write-areas-spec =
     area-requires
     mul-areas
     element-write-areas
-    add-j
+    add-k
     loop-less
     loop-again
     returns)
