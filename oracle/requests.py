@@ -327,6 +327,23 @@ def _additive(rng, rows, columns):
     return [x + y for x in down for y in along]
 
 
+def _unreduced(rng, rows, columns):
+    """Step B leaves lines with -infinity as they are: a negative entry stays in two of them, for step F to stop at."""
+    j, k = rng.randrange(columns), rng.randrange(columns)
+    lines = []
+    for _ in range(rows):
+        line = [float(rng.randint(1, 9)) for _ in range(columns)]
+        kind = rng.random()
+        if kind < 0.3:
+            line[j], line[k] = -math.inf, -float(rng.randint(1, 3))
+        elif kind < 0.5:
+            line[rng.randrange(columns)], line[k] = 0.0, -math.inf
+        else:
+            line[j] = 0.0
+        lines += line
+    return lines
+
+
 def _product(rng, rows, columns):
     """(i+1)(j+1), as it stands or with rows and columns in any order, or products of other terms: many corrections."""
     down, along = [float(i + 1) for i in range(rows)], [float(j + 1) for j in range(columns)]
@@ -365,7 +382,7 @@ def _distances(rng, rows, columns):
 COSTS = [_ties, _ties, _drawn(_million), _drawn(_million), _drawn(random.Random.random), _drawn(_fraction),
          _near_zero_test, _near_zero_test, _additive, _additive, _product, _stairs, _distances, _distances,
          _drawn(_edge), _drawn(lambda rng: rng.choice(_OVERFLOW)), _drawn(_huge),
-         _drawn(lambda rng: rng.choice(_SUBNORMAL)), _drawn(_bits)]
+         _drawn(lambda rng: rng.choice(_SUBNORMAL)), _unreduced, _drawn(_bits)]
 _INFINITIES = [word(math.inf), word(-math.inf)]
 SPRINKLES = [NANS, _INFINITIES[:1], _INFINITIES[1:], _INFINITIES + NANS, [word(x) for x in _OVERFLOW],
              [word(0.0), word(-0.0)], EDGE_WORDS]
