@@ -1,0 +1,4 @@
+pub mod Numbers
+pub mod Cursors
+pub mod Words
+pub mod Wholes
