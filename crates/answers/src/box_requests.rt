@@ -11,7 +11,7 @@ use iou::Box;
 use iou::Distance;
 use lines::input;
 use lines::output;
-use lines::patterns::computed;
+use numerals::patterns::computed;
 
 struct ReadBox {
     value: Box,

@@ -5,7 +5,7 @@ use crate::session::ended;
 use crate::session::refused;
 use lines::input;
 use lines::output;
-use lines::patterns::computed;
+use numerals::patterns::computed;
 
 // Two floats, and where the line ended.
 struct FloatPair {

@@ -1,17 +1,17 @@
 -- What the reader and the writer keep, from call to call. Assumes nothing.
-use mathlib.Core.Path.{_≡_, refl, sym, ap, subst}
+use mathlib.Core.Path.{_≡_, refl}
 use mathlib.Core.Bool.{Bool, true, false, cond}
-use Prim.Native.Nat.{ℕ, _+_, _≤_, _<_}
+use Prim.Native.Nat.{_+_}
 use native.Mathlib.Omega.{arith}
 use borrow.Author.Tests.{ltb-true}
 use lib.Dec.{ltb}
-use Rattle.lines.specs.declared.digits.Number.{Number}
-use Rattle.lines.specs.declared.digits.Number.the-variants.{Value, Nothing}
-use Rattle.lines.specs.declared.wholes.Whole.{Whole}
-use Rattle.lines.specs.declared.wholes.Whole.the-variants.{Int, NoInt}
+use Rattle.numerals.specs.declared.digits.Number.{Number}
+use Rattle.numerals.specs.declared.digits.Number.the-variants.{Value, Nothing}
+use Rattle.numerals.specs.declared.wholes.Whole.{Whole}
+use Rattle.numerals.specs.declared.wholes.Whole.the-variants.{Int, NoInt}
 use Rattle.lines.specs.declared.input.Reader.{Reader}
 use Rattle.lines.specs.declared.output.Writer.{Writer}
-use Rattle.lines.specs.Cursors.{Within, Onward, Kept, markedOf, passedOf}
+use Rattle.lines.specs.Cursors.{Onward, Kept, markedOf, passedOf}
 use Rattle.lines.specs.Words.{floatRead, countRead, wholeRead}
 
 -- ---- reading

@@ -1,5 +1,1 @@
-pub mod Values
-pub mod Nans
 pub mod Keeping
-pub mod Spelling
-pub mod Signs

@@ -1,4 +1,2 @@
-pub mod Numbers
 pub mod Cursors
 pub mod Words
-pub mod Wholes

@@ -2,14 +2,14 @@
 use mathlib.Core.Bool.{true, false}
 use lib.IntN.{pos}
 use lib.Ieee.{fin, binary64, ofBits}
-use Rattle.lines.specs.declared.digits.Number.{Number}
-use Rattle.lines.specs.declared.digits.Number.the-variants.{Value, Nothing}
+use Rattle.numerals.specs.declared.digits.Number.{Number}
+use Rattle.numerals.specs.declared.digits.Number.the-variants.{Value, Nothing}
 use Rattle.lines.specs.declared.input.Reader.{Reader}
 use Rattle.lines.specs.declared.input.ReadFloat.{ReadFloat}
 use Rattle.lines.specs.declared.input.ReadCount.{ReadCount}
 use Rattle.lines.specs.declared.input.ReadWhole.{ReadWhole}
-use Rattle.lines.specs.declared.wholes.Whole.{Whole}
-use Rattle.lines.specs.declared.wholes.Whole.the-variants.{Int, NoInt}
+use Rattle.numerals.specs.declared.wholes.Whole.{Whole}
+use Rattle.numerals.specs.declared.wholes.Whole.the-variants.{Int, NoInt}
 use Rattle.lines.specs.Cursors.{markedOf}
 
 -- no number is a fault, and the value 0

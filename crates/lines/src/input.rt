@@ -5,16 +5,16 @@ ghost use mathlib.Core.Bool.{true, false};
 ghost use Prim.Native.Nat.{_≤_};
 ghost use lib.ListN.{length};
 ghost use Rattle.io.specs.Counts.{Counts};
-ghost use Rattle.lines.specs.Numbers.{hexOf, decimalOf};
-ghost use Rattle.lines.specs.Wholes.{wholeOf};
+ghost use Rattle.numerals.specs.Numbers.{hexOf, decimalOf};
+ghost use Rattle.numerals.specs.Wholes.{wholeOf};
 ghost use Rattle.lines.specs.Cursors.{Within, Front, Onward, nextByte, markedOf, passedOf};
 ghost use Rattle.lines.specs.Words.{floatRead, countRead, wholeRead};
-use crate::digits::Number;
-use crate::digits::decimal;
-use crate::digits::hex;
-use crate::patterns::float_of;
-use crate::wholes::Whole;
-use crate::wholes::whole_in;
+use numerals::digits::Number;
+use numerals::digits::decimal;
+use numerals::digits::hex;
+use numerals::patterns::float_of;
+use numerals::wholes::Whole;
+use numerals::wholes::whole_in;
 
 // A place in the buffer, which holds what was read up to end.
 pub struct Reader {

@@ -1,6 +1,3 @@
-// Lines of words over standard input and output: numbers as text, a reader of words, a writer.
-pub mod digits;
+// Lines of words over standard input and output: a reader of words, and a writer.
 pub mod input;
 pub mod output;
-pub mod patterns;
-pub mod wholes;

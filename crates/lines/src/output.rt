@@ -1,14 +1,14 @@
 // Standard output through a buffer, which goes out when it is full and where flush is called.
 ghost use mathlib.Core.Path.{_≡_};
 ghost use mathlib.Core.Bool.{false, cond};
-ghost use Rattle.lines.specs.Numbers.{unsigned, spelled};
-ghost use Prim.Native.Nat.{_+_, _<_, _≤_};
-ghost use lib.ListN.{set, length};
-ghost use Rattle.io.specs.Digits.{glyph as Digits·glyph};
+ghost use Rattle.numerals.specs.Numbers.{unsigned};
+ghost use Prim.Native.Nat.{_+_};
+ghost use lib.ListN.{set};
 ghost use Rattle.lines.specs.Cursors.{Kept, placeOf};
-use crate::patterns::bits_of;
-use crate::patterns::computed;
-use crate::wholes::size;
+use numerals::patterns::bits_of;
+use numerals::patterns::computed;
+use numerals::spelling_out::spell;
+use numerals::wholes::size;
 
 // How much of the buffer waits, and whether a write failed.
 pub struct Writer {
@@ -96,29 +96,6 @@ pub fn whole(buf: &mut [u8; 65536], w: Writer, x: i32) -> Writer
         return decimal(buf, q, size(x));
     }
     decimal(buf, w, size(x))
-}
-
-// The digit of a value below 16.
-fn glyph(d: u64) -> u8
-    requires { ⌜ d < 16 ⌝ }
-    ensures { λ r. ⌜ r ≡ Digits·glyph d ⌝ }
-{
-    if d < 10 { 48 + d as u8 } else { 87 + d as u8 }
-}
-
-// All 16 digits, the last first. io::hex does as much, with three divisions for a digit.
-pub fn spell(n: u64) -> [u8; 16]
-    ensures { λ r. ⌜ (r ≡ spelled n) × (16 ≡ length r) ⌝ }
-{
-    let mut letters = [0u8; 16];
-    let mut i: usize = 16;
-    let mut rest = n;
-    while i > 0 {
-        i -= 1;
-        letters[i] = glyph(rest % 16);
-        rest = rest / 16;
-    }
-    letters
 }
 
 pub fn float(buf: &mut [u8; 65536], w: Writer, x: f64) -> Writer

@@ -1,6 +1,5 @@
 -- `lines::input::count_read` meets its contract. Assumes nothing.
 use Rattle.lines.specs.Words.{countRead}
-use mathlib.Core.Path.{refl}
 use borrow.Author.Needs.{needs}
 use Rattle.lines.proofs.input.count_read.Statement.{statement}
 use Rattle.lines.proofs.input.count_read.Tie as tie

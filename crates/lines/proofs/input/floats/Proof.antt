@@ -4,7 +4,7 @@ use Rattle.lines.proofs.Keeping.{onward-self, onward-trans}
 use borrow.Author.Needs.{needs}
 use lib.ListN.{length}
 use Prim.Native.Nat.{_≤_, _-_}
-use mathlib.Core.Path.{_≡_, sym, _∙_}
+use mathlib.Core.Path.{_≡_}
 use Rattle.lines.proofs.input.floats.Statement.{statement}
 use Rattle.lines.proofs.input.floats.Tie as tie
 

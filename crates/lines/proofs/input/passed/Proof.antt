@@ -1,5 +1,5 @@
 -- `lines::input::passed` meets its contract. Assumes nothing.
-use borrow.Author.Tests.{lt-ltb, le-ltb, eq-eqb, ne-eqb}
+use borrow.Author.Tests.{lt-ltb, le-ltb}
 use borrow.Author.Needs.{needs}
 use Rattle.lines.proofs.input.passed.Statement.{statement}
 use Rattle.lines.proofs.input.passed.Tie as tie

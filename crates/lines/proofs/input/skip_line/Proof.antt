@@ -2,8 +2,7 @@
 use Rattle.lines.specs.Cursors.{Onward}
 use Rattle.lines.proofs.Keeping.{onward-self, onward-trans, onward-passed}
 use borrow.Author.Needs.{needs}
-use Prim.Native.Nat.{_≤_, _-_}
-use mathlib.Core.Path.{_≡_, sym, _∙_}
+use Prim.Native.Nat.{_-_}
 use Rattle.lines.proofs.input.skip_line.Statement.{statement}
 use Rattle.lines.proofs.input.skip_line.Tie as tie
 

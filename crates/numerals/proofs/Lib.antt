@@ -1,0 +1,4 @@
+pub mod Values
+pub mod Nans
+pub mod Spelling
+pub mod Signs
