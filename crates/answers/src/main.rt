@@ -1,6 +1,7 @@
 // The port's side of the comparison: a request a line in, an answer a line out (oracle/PROTOCOL.md).
 mod box_requests;
 mod float_requests;
+mod search_requests;
 mod session;
 
 use lines::input;
@@ -22,6 +23,9 @@ fn answer(
         return t;
     }
     if let Reply::Given(t) = box_requests::answer(name, from, to, a, b, c, s) {
+        return t;
+    }
+    if let Reply::Given(t) = search_requests::answer(name, from, to, a, s) {
         return t;
     }
     session::unknown(from, to, s)

@@ -149,18 +149,19 @@ quick-shared a b x0 y0 x1 y1 h p q r s =
     rw (p ∙ upper-is-max _ _ (n .x0), q ∙ upper-is-max _ _ (n .y0), r ∙ lower-is-min _ _ (n .x1), s ∙ lower-is-min _ _ (n .y1))
 
 -- ---- an intersection that is right where the first box has no NaN serves
-pub quick-distance : (a b : Box) (inter : Float) → (anyNan a ≡ false → inter ≡ intersectionOf a b) → awayOf inter (unionOf (areaOf a) (areaOf b) inter) ≡ distanceOf a b
-unfolding distanceOf
-quick-distance a b inter h = go (anyNan a) refl
-  where
-    go : (t : Bool) → anyNan a ≡ t → awayOf inter (unionOf (areaOf a) (areaOf b) inter) ≡ awayOf (intersectionOf a b) (unionOf (areaOf a) (areaOf b) (intersectionOf a b))
-    go true e = simp (area-nan a e, union-nan-first, away-nan)
-    go false e = rw (h e)
+module _ (a b : Box) (inter area1 area2 : Float) (first : area1 ≡ areaOf a) (second : area2 ≡ areaOf b) where
+  pub quick-distance : (anyNan a ≡ false → inter ≡ intersectionOf a b) → awayOf inter (unionOf area1 area2 inter) ≡ distanceOf a b
+  unfolding distanceOf
+  quick-distance h = rw (first, second) (go (anyNan a) refl)
+    where
+      go : (t : Bool) → anyNan a ≡ t → awayOf inter (unionOf (areaOf a) (areaOf b) inter) ≡ awayOf (intersectionOf a b) (unionOf (areaOf a) (areaOf b) (intersectionOf a b))
+      go true e = simp (area-nan a e, union-nan-first, away-nan)
+      go false e = rw (h e)
 
-pub quick-share : (a b : Box) (inter : Float) → (anyNan a ≡ false → inter ≡ sharedOf a b) → quotientOf inter (unionOf (areaOf a) (areaOf b) inter) ≡ iouShareOf a b
-unfolding iouShareOf
-quick-share a b inter h = go (anyNan a) refl
-  where
-    go : (t : Bool) → anyNan a ≡ t → quotientOf inter (unionOf (areaOf a) (areaOf b) inter) ≡ quotientOf (sharedOf a b) (unionOf (areaOf a) (areaOf b) (sharedOf a b))
-    go true e = simp (area-nan a e, union-nan-first, quotient-nan)
-    go false e = rw (h e)
+  pub quick-share : (anyNan a ≡ false → inter ≡ sharedOf a b) → quotientOf inter (unionOf area1 area2 inter) ≡ iouShareOf a b
+  unfolding iouShareOf
+  quick-share h = rw (first, second) (go (anyNan a) refl)
+    where
+      go : (t : Bool) → anyNan a ≡ t → quotientOf inter (unionOf (areaOf a) (areaOf b) inter) ≡ quotientOf (sharedOf a b) (unionOf (areaOf a) (areaOf b) (sharedOf a b))
+      go true e = simp (area-nan a e, union-nan-first, quotient-nan)
+      go false e = rw (h e)

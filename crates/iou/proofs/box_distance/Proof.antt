@@ -12,24 +12,14 @@ intersection-requires c κs = search needs
 returns : tie.Need-returns
 unfolding awayOf unionOf ofBits
 returns c =
-    let args = c .before .before .args in
-    rw (
-      ← quick-distance (args .box1) (args .box2) (c .before .intersection .result) (c .before .intersection .ensures),
-      ← c .before .before .pre .0,
-      ← c .before .before .pre .1,
-      c .if1 .taken,
-    )
+    let pre = c .before .before .pre in
+    rw (← quick-distance _ _ _ _ _ (pre .0) (pre .1) (c .before .intersection .ensures), c .if1 .taken)
 
 returns-2 : tie.Need-returns-2
 unfolding awayOf unionOf ofBits
 returns-2 c =
-    let args = c .before .before .args in
-    rw (
-      ← quick-distance (args .box1) (args .box2) (c .before .intersection .result) (c .before .intersection .ensures),
-      ← c .before .before .pre .0,
-      ← c .before .before .pre .1,
-      c .if1 .left,
-    )
+    let pre = c .before .before .pre in
+    rw (← quick-distance _ _ _ _ _ (pre .0) (pre .1) (c .before .intersection .ensures), c .if1 .left)
 
 pub box-distance-spec : {M : Type 1} → statement M
 box-distance-spec = tie.close (tie.spec intersection-requires returns returns-2)

@@ -12,24 +12,14 @@ shared-requires c κs = search needs
 returns : tie.Need-returns
 unfolding quotientOf unionOf ofBits
 returns c =
-    let args = c .before .before .args in
-    rw (
-      ← quick-share (args .box1) (args .box2) (c .before .shared .result) (c .before .shared .ensures),
-      ← c .before .before .pre .0,
-      ← c .before .before .pre .1,
-      c .if1 .taken,
-    )
+    let pre = c .before .before .pre in
+    rw (← quick-share _ _ _ _ _ (pre .0) (pre .1) (c .before .shared .ensures), c .if1 .taken)
 
 returns-2 : tie.Need-returns-2
 unfolding quotientOf unionOf ofBits
 returns-2 c =
-    let args = c .before .before .args in
-    rw (
-      ← quick-share (args .box1) (args .box2) (c .before .shared .result) (c .before .shared .ensures),
-      ← c .before .before .pre .0,
-      ← c .before .before .pre .1,
-      c .if1 .left,
-    )
+    let pre = c .before .before .pre in
+    rw (← quick-share _ _ _ _ _ (pre .0) (pre .1) (c .before .shared .ensures), c .if1 .left)
 
 pub box-share-spec : {M : Type 1} → statement M
 box-share-spec = tie.close (tie.spec shared-requires returns returns-2)

@@ -1,0 +1,101 @@
+// Step E of the search: a path from a free row to a free column, and its flip.
+// The square lies at stride 64; in the tables n or more is no partner; 64 is no place and no column.
+ghost use mathlib.Core.Path.{_≡_};
+ghost use lib.ListN.{length, getD, replicate};
+ghost use Rattle.paths.specs.State.{Tables};
+ghost use Rattle.paths.specs.Path.{bfsOf, Flips};
+ghost use Rattle.paths.specs.Inner.{Trail, Begins, Holds, Tried};
+
+// The free column met, or 64, and how many rows were queued.
+pub struct Found {
+    pub hit: usize,
+    pub tail: usize,
+}
+
+// Step E from one free row: breadth first, the first free column met ends it.
+pub fn bfs(
+    c: &[f64; 4096],
+    n: usize,
+    cols: &[usize; 64],
+    start: usize,
+    from: &mut [usize; 64],
+    queue: &mut [usize; 64],
+) -> Found
+    requires { ⌜ Begins n (now cols) start × (now from ≡ replicate 64 64) × (length (now queue) ≡ 64) ⌝ }
+    ensures { λ r. ⌜ Holds (bfsOf (now (c .entry)) n (now (cols .entry)) start) (now (from .exit)) (now (queue .exit)) (r .hit) (r .tail) ⌝ }
+{
+    queue[0] = start;
+    let mut head = 0usize;
+    let mut tail = 1usize;
+    let mut hit = 64usize;
+    'bfs: while head < tail {
+        let row = queue[head];
+        let mut col = 0usize;
+        while col < n {
+            if from[col] == 64 {
+                if floats::is_zero(c[row * 64 + col]) {
+                    from[col] = head;
+                    let next = cols[col];
+                    if next < n {
+                        queue[tail] = next;
+                        tail += 1;
+                    } else {
+                        hit = col;
+                        break 'bfs;
+                    }
+                }
+            }
+            col += 1;
+        }
+        head += 1;
+    }
+    Found { hit, tail }
+}
+
+// Flips the path that ends at the free column `hit`.
+pub fn flip(
+    from: &[usize; 64],
+    queue: &[usize; 64],
+    hit: usize,
+    rows: &mut [usize; 64],
+    cols: &mut [usize; 64],
+)
+    requires { ⌜ Trail (now rows) (now cols) (now from) (now queue) hit ⌝ }
+    ensures { λ r. ⌜ Flips (now (from .entry)) (now (queue .entry)) (getD (now (from .entry)) hit 0) hit (now (rows .entry)) (now (cols .entry)) (now (rows .exit)) (now (cols .exit)) ⌝ }
+{
+    let mut col = hit;
+    let mut h = from[col];
+    while 0 < h {
+        let row = queue[h];
+        let prev = rows[row];
+        rows[row] = col;
+        cols[col] = row;
+        col = prev;
+        h = from[col];
+    }
+    let row = queue[0];
+    rows[row] = col;
+    cols[col] = row;
+}
+
+// Step E: the first free row that has a path, and that path flipped. False where there is none.
+pub fn augment(c: &[f64; 4096], n: usize, rows: &mut [usize; 64], cols: &mut [usize; 64]) -> bool
+    requires { ⌜ Tables n (now rows) (now cols) ⌝ }
+    ensures { λ r. ⌜ Tried r n (now (c .entry)) (now (rows .entry)) (now (cols .entry)) (now (rows .exit)) (now (cols .exit)) ⌝ }
+{
+    let mut start = 0usize;
+    while start < n {
+        if n <= rows[start] {
+            let mut from = [64usize; 64];
+            let mut queue = [0usize; 64];
+            let found = bfs(c, n, cols, start, &mut from, &mut queue);
+            let hit = found.hit;
+            if hit < n {
+                flip(&from, &queue, hit, rows, cols);
+                return true;
+            }
+        }
+        start += 1;
+    }
+    false
+}

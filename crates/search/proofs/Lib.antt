@@ -1,0 +1,11 @@
+pub mod Marks
+pub mod Grow
+pub mod NoPath
+pub mod ReachCode
+pub mod ReachOf
+pub mod LoopCode
+pub mod Unique
+pub mod Bounds
+pub mod Exists
+pub mod SearchCode
+pub mod ZeroPairs

@@ -1,0 +1,229 @@
+// Steps D to G of the search. The square lies at stride 64; in the tables n or more is no partner; sets of rows and columns are marks.
+ghost use mathlib.Core.Path.{_≡_};
+ghost use mathlib.Core.Bool.{true, false};
+ghost use Prim.Native.Nat.{ℕ, _≤_, _<_};
+ghost use lib.ListN.{length, getD, replicate};
+ghost use Rattle.square.specs.Index.{on};
+ghost use Rattle.square.specs.Square.{inRow, line};
+ghost use Rattle.paths.specs.State.{state, Ok};
+ghost use Rattle.search.specs.Steps.{Reached, leastRow, leastOver, usefulOf, shiftedOf, correction, shiftOf};
+ghost use Rattle.search.specs.Run.{Run};
+ghost use Rattle.search.specs.Inner.{RowDone, ColDone, Weighed};
+
+// Step D: whether all n rows are paired.
+pub fn full(rows: &[usize; 64], n: usize) -> bool
+    requires { ⌜ n ≤ 64 ⌝ }
+    ensures all { λ r. ⌜ (r ≡ true → (i : ℕ) → i < n → getD (now (rows .entry)) i 0 < n) ⌝ }
+    ensures some { λ r. ⌜ (r ≡ false → (i : ℕ) × (i < n) × (n ≤ getD (now (rows .entry)) i 0)) ⌝ }
+{
+    let mut i = 0usize;
+    while i < n {
+        if n <= rows[i] {
+            return false;
+        }
+        i += 1;
+    }
+    true
+}
+
+// The row routine of step F: marks a row, and every column that a zero leads to.
+pub fn reach_row(
+    c: &[f64; 4096],
+    n: usize,
+    cols: &[usize; 64],
+    row: usize,
+    rs: &mut [bool; 64],
+    cs: &mut [bool; 64],
+)
+    requires { ⌜ (n ≤ 64) × (row < n) × (length (now rs) ≡ 64) × (length (now cs) ≡ 64) ⌝ }
+    ensures { λ r. ⌜ RowDone (now (c .entry)) n (now (cols .entry)) row (now (rs .entry)) (now (cs .entry)) (now (rs .exit)) (now (cs .exit)) ⌝ }
+{
+    rs[row] = true;
+    let mut col = 0usize;
+    while col < n {
+        if !cs[col] {
+            if floats::is_zero(c[row * 64 + col]) {
+                reach_col(c, n, cols, col, rs, cs);
+            }
+        }
+        col += 1;
+    }
+}
+
+// The column routine: marks a column that is not marked yet, and goes on to its partner row.
+pub fn reach_col(
+    c: &[f64; 4096],
+    n: usize,
+    cols: &[usize; 64],
+    col: usize,
+    rs: &mut [bool; 64],
+    cs: &mut [bool; 64],
+)
+    requires { ⌜ (n ≤ 64) × (col < n) × (length (now rs) ≡ 64) × (length (now cs) ≡ 64) × (on (now cs) col ≡ false) ⌝ }
+    ensures { λ r. ⌜ ColDone (now (c .entry)) n (now (cols .entry)) col (now (rs .entry)) (now (cs .entry)) (now (rs .exit)) (now (cs .exit)) ⌝ }
+{
+    cs[col] = true;
+    let row = cols[col];
+    if row < n {
+        if !rs[row] {
+            reach_row(c, n, cols, row, rs, cs);
+        }
+    }
+}
+
+// Step F's sets, into marks that are all clear.
+pub fn reach(
+    c: &[f64; 4096],
+    n: usize,
+    rows: &[usize; 64],
+    cols: &[usize; 64],
+    rs: &mut [bool; 64],
+    cs: &mut [bool; 64],
+)
+    requires { ⌜ (n ≤ 64) × (now rs ≡ replicate 64 false) × (now cs ≡ replicate 64 false) ⌝ }
+    ensures { λ r. ⌜ Reached n (state (now (c .entry)) (now (rows .entry)) (now (cols .entry))) (now (rs .exit)) (now (cs .exit)) ⌝ }
+{
+    let mut row = 0usize;
+    while row < n {
+        if n <= rows[row] {
+            reach_row(c, n, cols, row, rs, cs);
+        }
+        row += 1;
+    }
+}
+
+// The smaller of m and a row's entries outside the marked columns, NaN passed over.
+pub fn least_row(c: &[f64; 4096], cs: &[bool; 64], row: usize, n: usize, least: f64) -> f64
+    requires { ⌜ (n ≤ 64) × (row < 64) ⌝ }
+    ensures { λ r. ⌜ r ≡ leastRow (now (c .entry)) (now (cs .entry)) row n least ⌝ }
+{
+    let mut m = least;
+    let mut col = 0usize;
+    while col < n {
+        if !cs[col] {
+            let x = c[row * 64 + col];
+            if x < m {
+                m = x;
+            }
+        }
+        col += 1;
+    }
+    m
+}
+
+// The minimum over the marked rows and the columns that are not marked.
+pub fn least_over(c: &[f64; 4096], n: usize, rs: &[bool; 64], cs: &[bool; 64]) -> f64
+    requires { ⌜ n ≤ 64 ⌝ }
+    ensures { λ r. ⌜ r ≡ leastOver (now (c .entry)) n (now (rs .entry)) (now (cs .entry)) ⌝ }
+{
+    let mut m = 1.0 / 0.0;
+    let mut row = 0usize;
+    while row < n {
+        if rs[row] {
+            m = least_row(c, cs, row, n, m);
+        }
+        row += 1;
+    }
+    m
+}
+
+// Whether a correction by m is of use: m is finite and above 0.
+pub fn useful(m: f64) -> bool
+    ensures { λ r. ⌜ r ≡ usefulOf m ⌝ }
+{
+    if m <= 0.0 {
+        return false;
+    }
+    floats::is_finite(m)
+}
+
+// An entry after a correction: m is taken off in R outside C, and put on outside R in C.
+pub fn shifted(in_r: bool, in_c: bool, m: f64, x: f64) -> f64
+    ensures { λ r. ⌜ r ≡ shiftedOf «in_r» «in_c» m x ⌝ }
+{
+    if in_r {
+        if in_c { x } else { x - m }
+    } else {
+        if in_c { x + m } else { x }
+    }
+}
+
+// One row of a correction.
+pub fn shift_row(
+    c: &mut [f64; 4096],
+    rs: &[bool; 64],
+    cs: &[bool; 64],
+    m: f64,
+    row: usize,
+    n: usize,
+)
+    requires { ⌜ (n ≤ 64) × (row < 64) ⌝ }
+    ensures { λ r. ⌜ now (c .exit) ≡ line (inRow row) n (correction (now (rs .entry)) (now (cs .entry)) m row) (now (c .entry)) ⌝ }
+{
+    let in_r = rs[row];
+    let mut col = 0usize;
+    while col < n {
+        let at = row * 64 + col;
+        c[at] = shifted(in_r, cs[col], m, c[at]);
+        col += 1;
+    }
+}
+
+// Step G.
+pub fn shift(c: &mut [f64; 4096], n: usize, rs: &[bool; 64], cs: &[bool; 64], m: f64)
+    requires { ⌜ n ≤ 64 ⌝ }
+    ensures { λ r. ⌜ now (c .exit) ≡ shiftOf n (now (rs .entry)) (now (cs .entry)) m (now (c .entry)) ⌝ }
+{
+    let mut row = 0usize;
+    while row < n {
+        shift_row(c, rs, cs, m, row, n);
+        row += 1;
+    }
+}
+
+// Steps F and G: one cost correction, or false where the minimum is of no use.
+pub fn correct(c: &mut [f64; 4096], n: usize, rows: &[usize; 64], cols: &[usize; 64]) -> bool
+    requires { ⌜ n ≤ 64 ⌝ }
+    ensures { λ r. ⌜ Weighed r n (now (c .entry)) (now (rows .entry)) (now (cols .entry)) (now (c .exit)) ⌝ }
+{
+    let mut rs = [false; 64];
+    let mut cs = [false; 64];
+    reach(c, n, rows, cols, &mut rs, &mut cs);
+    let m = least_over(c, n, &rs, &cs);
+    if !useful(m) {
+        return false;
+    }
+    shift(c, n, &rs, &cs, m);
+    true
+}
+
+// How many corrections and path changes were made.
+pub struct Counts {
+    pub corrections: usize,
+    pub paths: usize,
+}
+
+// Steps D to G, with no cap.
+pub fn search(
+    c: &mut [f64; 4096],
+    n: usize,
+    rows: &mut [usize; 64],
+    cols: &mut [usize; 64],
+) -> Counts
+    requires { ⌜ Ok n (state (now c) (now rows) (now cols)) ⌝ }
+    ensures { λ r. ⌜ Run n (state (now (c .entry)) (now (rows .entry)) (now (cols .entry))) (r .corrections) (r .paths) (state (now (c .exit)) (now (rows .exit)) (now (cols .exit))) ⌝ }
+{
+    let mut corrections = 0usize;
+    let mut paths = 0usize;
+    while !full(rows, n) {
+        if paths::augment(c, n, rows, cols) {
+            paths += 1;
+        } else {
+            if !correct(c, n, rows, cols) {
+                break;
+            }
+            corrections += 1;
+        }
+    }
+    Counts { corrections, paths }
+}

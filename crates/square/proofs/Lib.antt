@@ -1,0 +1,5 @@
+pub mod Truth
+pub mod Index
+pub mod Count
+pub mod Gather
+pub mod Square

@@ -1,0 +1,2 @@
+pub mod StepsCode
+pub mod StartOk
