@@ -32,7 +32,7 @@ pub struct Matching {
 }
 
 // Document 01's number: 2 for too many rows or columns, 3 for a length that is not theirs, or 0 rows with columns.
-pub fn assignment_no(len: usize, rows: usize, cols: usize) -> u32
+fn assignment_no(len: usize, rows: usize, cols: usize) -> u32
     ensures { λ r. ⌜ r ≡ assignmentNo len rows cols ⌝ }
 {
     if 64 < rows {
@@ -50,7 +50,7 @@ pub fn assignment_no(len: usize, rows: usize, cols: usize) -> u32
 }
 
 // Steps A to G.
-pub fn hungarian_algorithm(cost: &[f64], rows: usize, cols: usize) -> Matching
+fn hungarian_algorithm(cost: &[f64], rows: usize, cols: usize) -> Matching
     requires { ⌜ (rows ≤ 64) × (cols ≤ 64) × (length (now cost) ≡ rows * cols) ⌝ }
     ensures { λ r. ⌜ Solved (now (cost .entry)) rows cols (r .corrections) (r .paths) (r .«row_match») ⌝ }
 {
@@ -74,7 +74,7 @@ pub fn hungarian_algorithm(cost: &[f64], rows: usize, cols: usize) -> Matching
 }
 
 // Whether a row and a column are a real pair whose cost, as given, is at most max_cost.
-pub fn passes(cost: &[f64], cols: usize, max_cost: f64, row: usize, col: usize) -> bool
+fn passes(cost: &[f64], cols: usize, max_cost: f64, row: usize, col: usize) -> bool
     requires { ⌜ row * cols + cols ≤ length (now cost) ⌝ }
     ensures { λ r. ⌜ r ≡ passesOf (now (cost .entry)) cols «max_cost» row col ⌝ }
 {
@@ -90,7 +90,7 @@ pub struct Kept {
 }
 
 // The pairs that pass, by rising row, with marks at their rows and columns.
-pub fn keep_pairs(
+fn keep_pairs(
     cost: &[f64],
     rows: usize,
     cols: usize,
@@ -130,7 +130,7 @@ pub struct Indices {
 }
 
 // The numbers below n that are not marked, rising.
-pub fn unmatched(marks: &[bool; 64], n: usize) -> Indices
+fn unmatched(marks: &[bool; 64], n: usize) -> Indices
     requires { ⌜ n ≤ 64 ⌝ }
     ensures { λ r. ⌜ Unmarked (now (marks .entry)) n (r .places) (r .used) ⌝ }
 {
@@ -148,7 +148,7 @@ pub fn unmatched(marks: &[bool; 64], n: usize) -> Indices
 }
 
 // What of a matching passes max_cost, and what is left.
-pub fn filtered(
+fn filtered(
     cost: &[f64],
     rows: usize,
     cols: usize,
@@ -189,7 +189,7 @@ pub fn filtered(
 }
 
 // A number, with zeros everywhere else.
-pub fn empty(number: u32) -> AssignmentResult
+fn empty(number: u32) -> AssignmentResult
     ensures { λ r. ⌜ r ≡ emptyOf number ⌝ }
 {
     AssignmentResult {
@@ -209,7 +209,7 @@ pub fn empty(number: u32) -> AssignmentResult
 }
 
 // Rows but no columns: every row is unmatched.
-pub fn rows_alone(rows: usize) -> AssignmentResult
+fn rows_alone(rows: usize) -> AssignmentResult
     requires { ⌜ rows ≤ 64 ⌝ }
     ensures { λ r. ⌜ r ≡ rowsAlone rows ⌝ }
 {

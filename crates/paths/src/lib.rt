@@ -13,7 +13,7 @@ pub struct Found {
 }
 
 // Step E from one free row: breadth first, the first free column met ends it.
-pub fn bfs(
+fn bfs(
     c: &[f64; 4096],
     n: usize,
     cols: &[usize; 64],
@@ -53,7 +53,7 @@ pub fn bfs(
 }
 
 // Flips the path that ends at the free column `hit`.
-pub fn flip(
+fn flip(
     from: &[usize; 64],
     queue: &[usize; 64],
     hit: usize,

@@ -11,7 +11,7 @@ ghost use Rattle.search.specs.Run.{Run};
 ghost use Rattle.search.specs.Inner.{RowDone, ColDone, Weighed};
 
 // Step D: whether all n rows are paired.
-pub fn full(rows: &[usize; 64], n: usize) -> bool
+fn full(rows: &[usize; 64], n: usize) -> bool
     requires { ⌜ n ≤ 64 ⌝ }
     ensures all { λ r. ⌜ (r ≡ true → (i : ℕ) → i < n → getD (now (rows .entry)) i 0 < n) ⌝ }
     ensures some { λ r. ⌜ (r ≡ false → (i : ℕ) × (i < n) × (n ≤ getD (now (rows .entry)) i 0)) ⌝ }
@@ -27,7 +27,7 @@ pub fn full(rows: &[usize; 64], n: usize) -> bool
 }
 
 // The row routine of step F: marks a row, and every column that a zero leads to.
-pub fn reach_row(
+fn reach_row(
     c: &[f64; 4096],
     n: usize,
     cols: &[usize; 64],
@@ -51,7 +51,7 @@ pub fn reach_row(
 }
 
 // The column routine: marks a column that is not marked yet, and goes on to its partner row.
-pub fn reach_col(
+fn reach_col(
     c: &[f64; 4096],
     n: usize,
     cols: &[usize; 64],
@@ -72,7 +72,7 @@ pub fn reach_col(
 }
 
 // Step F's sets, into marks that are all clear.
-pub fn reach(
+fn reach(
     c: &[f64; 4096],
     n: usize,
     rows: &[usize; 64],
@@ -93,7 +93,7 @@ pub fn reach(
 }
 
 // The smaller of m and a row's entries outside the marked columns, NaN passed over.
-pub fn least_row(c: &[f64; 4096], cs: &[bool; 64], row: usize, n: usize, least: f64) -> f64
+fn least_row(c: &[f64; 4096], cs: &[bool; 64], row: usize, n: usize, least: f64) -> f64
     requires { ⌜ (n ≤ 64) × (row < 64) ⌝ }
     ensures { λ r. ⌜ r ≡ leastRow (now (c .entry)) (now (cs .entry)) row n least ⌝ }
 {
@@ -112,7 +112,7 @@ pub fn least_row(c: &[f64; 4096], cs: &[bool; 64], row: usize, n: usize, least: 
 }
 
 // The minimum over the marked rows and the columns that are not marked.
-pub fn least_over(c: &[f64; 4096], n: usize, rs: &[bool; 64], cs: &[bool; 64]) -> f64
+fn least_over(c: &[f64; 4096], n: usize, rs: &[bool; 64], cs: &[bool; 64]) -> f64
     requires { ⌜ n ≤ 64 ⌝ }
     ensures { λ r. ⌜ r ≡ leastOver (now (c .entry)) n (now (rs .entry)) (now (cs .entry)) ⌝ }
 {
@@ -128,7 +128,7 @@ pub fn least_over(c: &[f64; 4096], n: usize, rs: &[bool; 64], cs: &[bool; 64]) -
 }
 
 // Whether a correction by m is of use: m is finite and above 0.
-pub fn useful(m: f64) -> bool
+fn useful(m: f64) -> bool
     ensures { λ r. ⌜ r ≡ usefulOf m ⌝ }
 {
     if m <= 0.0 {
@@ -138,7 +138,7 @@ pub fn useful(m: f64) -> bool
 }
 
 // An entry after a correction: m is taken off in R outside C, and put on outside R in C.
-pub fn shifted(in_r: bool, in_c: bool, m: f64, x: f64) -> f64
+fn shifted(in_r: bool, in_c: bool, m: f64, x: f64) -> f64
     ensures { λ r. ⌜ r ≡ shiftedOf «in_r» «in_c» m x ⌝ }
 {
     if in_r {
@@ -149,14 +149,7 @@ pub fn shifted(in_r: bool, in_c: bool, m: f64, x: f64) -> f64
 }
 
 // One row of a correction.
-pub fn shift_row(
-    c: &mut [f64; 4096],
-    rs: &[bool; 64],
-    cs: &[bool; 64],
-    m: f64,
-    row: usize,
-    n: usize,
-)
+fn shift_row(c: &mut [f64; 4096], rs: &[bool; 64], cs: &[bool; 64], m: f64, row: usize, n: usize)
     requires { ⌜ (n ≤ 64) × (row < 64) ⌝ }
     ensures { λ r. ⌜ now (c .exit) ≡ line (inRow row) n (correction (now (rs .entry)) (now (cs .entry)) m row) (now (c .entry)) ⌝ }
 {
@@ -170,7 +163,7 @@ pub fn shift_row(
 }
 
 // Step G.
-pub fn shift(c: &mut [f64; 4096], n: usize, rs: &[bool; 64], cs: &[bool; 64], m: f64)
+fn shift(c: &mut [f64; 4096], n: usize, rs: &[bool; 64], cs: &[bool; 64], m: f64)
     requires { ⌜ n ≤ 64 ⌝ }
     ensures { λ r. ⌜ now (c .exit) ≡ shiftOf n (now (rs .entry)) (now (cs .entry)) m (now (c .entry)) ⌝ }
 {
@@ -182,7 +175,7 @@ pub fn shift(c: &mut [f64; 4096], n: usize, rs: &[bool; 64], cs: &[bool; 64], m:
 }
 
 // Steps F and G: one cost correction, or false where the minimum is of no use.
-pub fn correct(c: &mut [f64; 4096], n: usize, rows: &[usize; 64], cols: &[usize; 64]) -> bool
+fn correct(c: &mut [f64; 4096], n: usize, rows: &[usize; 64], cols: &[usize; 64]) -> bool
     requires { ⌜ n ≤ 64 ⌝ }
     ensures { λ r. ⌜ Weighed r n (now (c .entry)) (now (rows .entry)) (now (cols .entry)) (now (c .exit)) ⌝ }
 {

@@ -9,7 +9,7 @@ ghost use Rattle.square.specs.Square.{inRow, along, line};
 ghost use Rattle.start.specs.Steps.{padded, leastAlong, lessBy, lowered, rowsLowered, colsLowered, pairRow, pairRows, pairsOf};
 
 // One row of step A.
-pub fn pad_row(src: &[f64], row: usize, c: &mut [f64; 4096])
+fn pad_row(src: &[f64], row: usize, c: &mut [f64; 4096])
     requires { ⌜ (length (now src) ≤ 64) × (row < 64) ⌝ }
     ensures { λ r. ⌜ now (c .exit) ≡ line (inRow row) (length (now (src .entry))) (λ j _. getD (now (src .entry)) j nan) (now (c .entry)) ⌝ }
 {
@@ -36,7 +36,7 @@ pub fn pad(m: &[f64], rows: usize, cols: usize, c: &mut [f64; 4096])
 }
 
 // The minimum of a line, NaN passed over.
-pub fn least_along(c: &[f64; 4096], first: usize, step: usize, n: usize) -> f64
+fn least_along(c: &[f64; 4096], first: usize, step: usize, n: usize) -> f64
     requires { ⌜ ((t : ℕ) → t < n → first + t * step < 4096) ⌝ }
     ensures { λ r. ⌜ r ≡ leastAlong (along first step) n (now (c .entry)) ⌝ }
 {
@@ -53,7 +53,7 @@ pub fn least_along(c: &[f64; 4096], first: usize, step: usize, n: usize) -> f64
 }
 
 // A line less m.
-pub fn less_by(c: &mut [f64; 4096], first: usize, step: usize, n: usize, m: f64)
+fn less_by(c: &mut [f64; 4096], first: usize, step: usize, n: usize, m: f64)
     requires { ⌜ ((t : ℕ) → t < n → first + t * step < 4096) ⌝ }
     ensures { λ r. ⌜ now (c .exit) ≡ lessBy (along first step) n m (now (c .entry)) ⌝ }
 {
@@ -66,7 +66,7 @@ pub fn less_by(c: &mut [f64; 4096], first: usize, step: usize, n: usize, m: f64)
 }
 
 // A line less its minimum, if that is finite.
-pub fn lower(c: &mut [f64; 4096], first: usize, step: usize, n: usize)
+fn lower(c: &mut [f64; 4096], first: usize, step: usize, n: usize)
     requires { ⌜ ((t : ℕ) → t < n → first + t * step < 4096) ⌝ }
     ensures { λ r. ⌜ now (c .exit) ≡ lowered (along first step) n (now (c .entry)) ⌝ }
 {
@@ -101,13 +101,7 @@ pub fn lower_cols(c: &mut [f64; 4096], n: usize)
 }
 
 // One row of step C.
-pub fn pair_row(
-    c: &[f64; 4096],
-    n: usize,
-    row: usize,
-    rows: &mut [usize; 64],
-    cols: &mut [usize; 64],
-)
+fn pair_row(c: &[f64; 4096], n: usize, row: usize, rows: &mut [usize; 64], cols: &mut [usize; 64])
     requires { ⌜ (n ≤ 64) × (row < n) ⌝ }
     ensures { λ r. ⌜ pairsOf (now (rows .exit)) (now (cols .exit)) ≡ pairRow (now (c .entry)) n row n (pairsOf (now (rows .entry)) (now (cols .entry))) ⌝ }
 {
