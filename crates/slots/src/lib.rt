@@ -4,7 +4,7 @@
 use lifecycle::TrackLifecycle;
 ghost use mathlib.Core.Path.{_≡_};
 ghost use Prim.Native.Nat.{_≤_};
-ghost use lib.ListN.{take};
+ghost use lib.ListN.{length, take};
 ghost use Rattle.slots.specs.Slots.{newSlot, seekOf, switches, missedSlot, matchedSlot, bookedSlot, idsFilled, distinctOf, countsSound, soundOf};
 
 // The prediction that a truth id was last matched to, or none yet.
@@ -123,10 +123,10 @@ pub fn book_slot(slot: Slot, to: Partner, frame: i32) -> BookedSlot
     }
 }
 
-// The ids of the first used slots, for a lookup; the places after them are 0.
+// The ids of the first used slots, for a lookup; the places after them are 0. (A table has 256 places: callers ask that of a field.)
 pub fn ids_of(slots: [Slot; 256], used: usize) -> [i32; 256]
     requires { ⌜ used ≤ 256 ⌝ }
-    ensures { λ r. ⌜ r ≡ idsFilled slots used ⌝ }
+    ensures { λ r. ⌜ (r ≡ idsFilled slots used) × (length slots ≡ 256) ⌝ }
 {
     let mut ids = [0i32; 256];
     let mut i: usize = 0;

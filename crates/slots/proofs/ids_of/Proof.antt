@@ -54,7 +54,7 @@ returns : tie.Need-returns Inv-loop μ-loop
 returns c =
     let b = c .before in
     let e : b .loop .i ≡ b .before .args .used = omega arith in
-    rw e at (b .loop .inv .2)
+    (rw e at (b .loop .inv .2), b .loop .inv .1)
 
 pub ids-of-spec : {M : Type 1} → statement M
 ids-of-spec =

@@ -33,8 +33,7 @@ slice-aggregate-distinct c =
     let e = c .before .before .before .before in
     let s = e .before .args in
     let h = e .if1 .left in
-    let l : length (s .slots) ≡ 256 = search needs in
-    let n = ap length (c .before .ids-of .ensures) ∙ filled-long (s .slots) (s .used) h l in
+    let n = ap length (c .before .ids-of .ensures .0) ∙ filled-long (s .slots) (s .used) h (c .before .ids-of .ensures .1) in
     sym (length-take-le (s .used) (c .before .ids-of .result) (omega arith))
 
 distinct-requires : tie.Need-distinct-requires
@@ -46,9 +45,9 @@ returns-3 c =
     let d = c .before .before .before in
     let e = d .before .before in
     let h = e .if1 .left in
-    let l : length (e .before .args .slots) ≡ 256 = search needs in
+    let l = c .before .before .ids-of .ensures .1 in
     rw (le-leb _ _ (d .before .before .if1 .left), sym (d .before .counts-sound .ensures) ∙ not-false _ (d .if2 .left))
-    (c .distinct .ensures ∙ ap distinctOf (ap (take (e .before .args .used)) (c .before .before .ids-of .ensures) ∙ ids-taken (e .before .args .slots) (e .before .args .used) (omega arith)))
+    (c .distinct .ensures ∙ ap distinctOf (ap (take (e .before .args .used)) (c .before .before .ids-of .ensures .0) ∙ ids-taken (e .before .args .slots) (e .before .args .used) (omega arith)))
 
 pub sound-spec : {M : Type 1} → statement M
 sound-spec =
