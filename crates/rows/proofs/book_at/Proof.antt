@@ -1,38 +1,44 @@
+-- `rows::book_at` meets its contract. Assumes nothing.
+use mir.Facts.{toZ-ofZ}
+use Rattle.counts.proofs.Ids.{back}
+use Rattle.rows.specs.Rows.{stepOf}
 use borrow.Author.Needs.{needs}
 use Rattle.rows.proofs.book_at.Statement.{statement}
 use Rattle.rows.proofs.book_at.Tie as tie
-use Rattle.rows.proofs.book_at.Reads as reads
-use Rattle.rows.proofs.book_at.Lts as lts
-use Rattle.slots.proofs.book_slot.Reads as book-slot-reads
-use Rattle.slots.proofs.new_slot.Reads as new-slot-reads
 
--- src/lib.rt:106:9
 returns : tie.Need-returns
-returns c = ?
+unfolding stepOf
+returns c = rw (c .if1 .taken)
 
--- src/lib.rt:109:37
 new-slot-requires : tie.Need-new-slot-requires
 new-slot-requires c κs = search needs
 
--- src/lib.rt:109:13
 book-slot-requires : tie.Need-book-slot-requires
 book-slot-requires c κs = search needs
 
--- src/lib.rt:111:41
 add-t14 : tie.Need-add-t14
 add-t14 c = search needs
 
--- src/lib.rt:111:9
 returns-2 : tie.Need-returns-2
-returns-2 c = ?
+unfolding stepOf
+returns-2 c =
+    let b = c .before in
+    let n = b .before in
+    let e = n .before .before in
+    let s = e .before .before in
+    rw (e .if1 .left, n .before .if2 .taken)
+    (simp (b .book-slot .ensures, n .new-slot .ensures, toZ-ofZ (s .fits .frame), back (s .args .row .id) (e .before .struct-told .given .0 .1)))
 
--- src/lib.rt:113:9
 book-slot-requires-2 : tie.Need-book-slot-requires-2
 book-slot-requires-2 c κs = search needs
 
--- src/lib.rt:99:1
 returns-3 : tie.Need-returns-3
-returns-3 c = ?
+unfolding stepOf
+returns-3 c =
+    let b = c .before in
+    let e = b .before .before in
+    let s = e .before .before in
+    rw (e .if1 .left, b .before .if2 .left) (simp (b .book-slot2 .ensures, toZ-ofZ (s .fits .frame)))
 
 pub book-at-spec : {M : Type 1} → statement M
 book-at-spec =
