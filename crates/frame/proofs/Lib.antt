@@ -1,2 +1,5 @@
 pub mod Totals
 pub mod Ways
+pub mod Fitting
+pub mod Agreement
+pub mod Finals
