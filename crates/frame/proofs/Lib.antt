@@ -3,3 +3,4 @@ pub mod Ways
 pub mod Fitting
 pub mod Agreement
 pub mod Finals
+pub mod Examples

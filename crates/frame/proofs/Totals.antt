@@ -3,12 +3,13 @@ use mathlib.Core.Path.{_≡_, refl, sym, ap, _∙_}
 use mathlib.Core.Bool.{Bool, true, false, _&&_, true≢false}
 use Prim.Native.Nat.{ℕ, _≤_}
 use lib.IntN.{ℤ, pos, _+ℤ_}
+use lib.Signed.{nonNeg}
 use lib.Ieee.{Float}
 use Rattle.counts.specs.Counts.{roomFor}
 use Rattle.lifecycle.proofs.Rooms.{all-three}
 use Rattle.rows.specs.declared.ExtendedMOTAccumulator.{ExtendedMOTAccumulator}
 use Rattle.frame.specs.declared.Shares.{Shares}
-use Rattle.frame.specs.Frame.{roomForAll, raisedBy}
+use Rattle.frame.specs.Frame.{totalsSound, roomForAll, raisedBy}
 
 halves : (a b : Bool) → (a && b) ≡ true → (a ≡ true) × (b ≡ true)
 halves true b e = (refl, e)
@@ -53,3 +54,11 @@ module _ (t : ExtendedMOTAccumulator) (by : Shares) where
   unfolding raisedBy
   raised-is d n₁ n₂ n₃ n₄ n₅ n₆ p₁ p₂ p₃ p₄ p₅ p₆ =
       λ i. record { slots = t .slots; used = t .used; «frame_id» = p₁ i; «num_matches» = p₂ i; «num_misses» = p₃ i; «num_false_positives» = p₄ i; «num_switches» = p₅ i; «num_objects» = p₆ i; «total_distance» = d }
+
+-- ---- refusal 1 for the counters
+pub signs-are : (t : ExtendedMOTAccumulator) (a b c d e f x y r : Bool) → a ≡ nonNeg (t .«frame_id») → b ≡ nonNeg (t .«num_matches») → c ≡ nonNeg (t .«num_misses»)
+    → d ≡ nonNeg (t .«num_false_positives») → e ≡ nonNeg (t .«num_switches») → f ≡ nonNeg (t .«num_objects»)
+    → x ≡ (a && (b && c)) → y ≡ (d && (e && f)) → r ≡ (x && y) → r ≡ totalsSound t
+unfolding totalsSound
+signs-are t a b c d e f x y r pa pb pc pd pe pf px py pr =
+    pr ∙ (λ i. px i && py i) ∙ (λ i. (pa i && (pb i && pc i)) && (pd i && (pe i && pf i)))

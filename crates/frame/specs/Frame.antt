@@ -6,12 +6,22 @@ use lib.IntN.{ℤ, pos, _+ℤ_}
 use lib.Signed.{nonNeg}
 use lib.Ieee.{Float}
 use Rattle.counts.specs.Counts.{roomFor}
+use Rattle.slots.specs.Slots.{soundOf}
 use Rattle.rows.specs.declared.ExtendedMOTAccumulator.{ExtendedMOTAccumulator}
 use Rattle.rows.specs.declared.Row.{Row}
 use Rattle.rows.specs.declared.Trial.{Trial}
 use Rattle.rows.specs.Rows.{trialAfter}
 use Rattle.frame.specs.declared.Shares.{Shares}
 use Rattle.frame.specs.declared.Booked.{Booked}
+
+-- ---- refusal 1: a negative counter, or a table that is not sound
+unfoldable pub totalsSound : ExtendedMOTAccumulator → Bool
+totalsSound s =
+    (nonNeg (s .«frame_id») && (nonNeg (s .«num_matches») && nonNeg (s .«num_misses»)))
+    && (nonNeg (s .«num_false_positives») && (nonNeg (s .«num_switches») && nonNeg (s .«num_objects»)))
+
+unfoldable pub soundState : ExtendedMOTAccumulator → Bool
+soundState s = totalsSound s && soundOf (s .slots) (s .used)
 
 -- the frame's number: one more; where that would pass, the frame is refused in the end
 unfoldable pub nextFrame : ℤ → ℤ

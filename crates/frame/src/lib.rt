@@ -6,7 +6,7 @@ ghost use mathlib.Core.Bool.{true, _&&_};
 ghost use Prim.Native.Nat.{_≤_};
 ghost use lib.ListN.{length};
 ghost use Rattle.rows.specs.Rows.{Lies, rowAt};
-ghost use Rattle.frame.specs.Frame.{Few, nextFrame, roomForAll, raisedBy, frameOf};
+ghost use Rattle.frame.specs.Frame.{totalsSound, soundState, Few, nextFrame, roomForAll, raisedBy, frameOf};
 
 // What a frame adds to each of the six counters.
 pub struct Shares {
@@ -143,4 +143,29 @@ pub fn book_frame(
         number: 0,
         state: booked,
     }
+}
+
+// Whether none of the six counters is negative.
+fn totals_sound(s: ExtendedMOTAccumulator) -> bool
+    ensures { λ r. ⌜ r ≡ totalsSound s ⌝ }
+{
+    let a = counts::not_negative(s.frame_id);
+    let b = counts::not_negative(s.num_matches);
+    let c = counts::not_negative(s.num_misses);
+    let d = counts::not_negative(s.num_false_positives);
+    let e = counts::not_negative(s.num_switches);
+    let f = counts::not_negative(s.num_objects);
+    both(all_three(a, b, c), all_three(d, e, f))
+}
+
+// Whether a state that is handed in is one that refusal 1 lets by.
+pub fn sound(s: ExtendedMOTAccumulator) -> bool
+    ensures { λ r. ⌜ r ≡ soundState s ⌝ }
+{
+    if !totals_sound(s) {
+        return false;
+    }
+    let table = s.slots;
+    let used = s.used;
+    slots::sound(table, used)
 }

@@ -4,7 +4,8 @@ use mathlib.Core.List.{List}
 use Prim.Native.Nat.{ℕ, zero, suc, _+_, _-_, _<_, _≤_}
 use lib.Dec.{ltb}
 use lib.IntN.{ℤ, pos}
-use lib.ListN.{getD, set}
+use lib.ListN.{getD, set, replicate}
+use Rattle.floats.specs.Float.{zero64}
 use Rattle.counts.specs.Counts.{oneIf}
 use Rattle.slots.specs.declared.Slot.{Slot}
 use Rattle.slots.specs.declared.BookedSlot.{BookedSlot}
@@ -17,6 +18,21 @@ use Rattle.rows.specs.declared.Row.{Row}
 use Rattle.rows.specs.declared.Spot.{Spot}
 use Rattle.rows.specs.declared.Step.{Step}
 use Rattle.rows.specs.declared.Trial.{Trial}
+
+-- frame 0, nothing counted, no slot in use
+abbrev pub newState : ExtendedMOTAccumulator
+newState =
+    record {
+      slots = replicate 256 noSlot;
+      used = 0;
+      «frame_id» = pos 0;
+      «num_matches» = pos 0;
+      «num_misses» = pos 0;
+      «num_false_positives» = pos 0;
+      «num_switches» = pos 0;
+      «num_objects» = pos 0;
+      «total_distance» = zero64;
+    }
 
 -- ---- a pairing: its pairs by row and column, and the rows that are left
 -- what its lists obey: places of the two runs of ids, and no more rows than 64

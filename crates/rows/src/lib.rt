@@ -7,7 +7,7 @@ ghost use mathlib.Core.Path.{_≡_};
 ghost use mathlib.Core.Bool.{_||_};
 ghost use Prim.Native.Nat.{_+_, _<_, _≤_};
 ghost use lib.ListN.{length};
-ghost use Rattle.rows.specs.Rows.{Lies, rowAt, spotOf, stepOf, trialAfter};
+ghost use Rattle.rows.specs.Rows.{newState, Lies, rowAt, spotOf, stepOf, trialAfter};
 
 // What an accumulator has counted so far, and its table: the first used slots, in order of first booking.
 pub struct ExtendedMOTAccumulator {
@@ -20,6 +20,26 @@ pub struct ExtendedMOTAccumulator {
     pub num_switches: i32,
     pub num_objects: i32,
     pub total_distance: f64,
+}
+
+impl ExtendedMOTAccumulator {
+    // Frame 0, and nothing counted.
+    pub fn new() -> Self
+        ensures { λ r. ⌜ r ≡ newState ⌝ }
+    {
+        let slot = slots::new_slot(0, 0);
+        Self {
+            slots: [slot; 256],
+            used: 0,
+            frame_id: 0,
+            num_matches: 0,
+            num_misses: 0,
+            num_false_positives: 0,
+            num_switches: 0,
+            num_objects: 0,
+            total_distance: 0.0,
+        }
+    }
 }
 
 // A truth row: its id, and the id of the prediction that it is matched to, or nobody where it is missed.
