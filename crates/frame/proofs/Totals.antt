@@ -1,0 +1,64 @@
+-- The six counters of a frame, each by itself. Assumes nothing.
+use mathlib.Core.Path.{_≡_, refl, sym, ap, _∙_}
+use mathlib.Core.Bool.{Bool, true, false, _&&_, true≢false}
+use Prim.Native.Nat.{ℕ, _≤_}
+use lib.IntN.{ℤ, pos, _+ℤ_}
+use lib.Signed.{nonNeg}
+use lib.Ieee.{Float}
+use Rattle.counts.specs.Counts.{roomFor}
+use Rattle.lifecycle.proofs.Rooms.{all-three}
+use Rattle.rows.specs.declared.ExtendedMOTAccumulator.{ExtendedMOTAccumulator}
+use Rattle.frame.specs.declared.Shares.{Shares}
+use Rattle.frame.specs.Frame.{totalsSound, roomForAll, raisedBy}
+
+halves : (a b : Bool) → (a && b) ≡ true → (a ≡ true) × (b ≡ true)
+halves true b e = (refl, e)
+halves false b e = absurd (true≢false (sym e))
+
+module _ (t : ExtendedMOTAccumulator) (by : Shares) where
+  abbrev frames : Bool
+  frames = roomFor (t .«frame_id») 1
+
+  abbrev matches : Bool
+  matches = roomFor (t .«num_matches») (by .matches)
+
+  abbrev misses : Bool
+  misses = roomFor (t .«num_misses») (by .misses)
+
+  abbrev extras : Bool
+  extras = roomFor (t .«num_false_positives») (by .«false_positives»)
+
+  abbrev switched : Bool
+  switched = roomFor (t .«num_switches») (by .switches)
+
+  abbrev objects : Bool
+  objects = roomFor (t .«num_objects») (by .objects)
+
+  pub room-is : (a b c d e f x y r : Bool) → a ≡ frames → b ≡ matches → c ≡ misses → d ≡ extras → e ≡ switched → f ≡ objects
+      → x ≡ (a && (b && c)) → y ≡ (d && (e && f)) → r ≡ (x && y) → r ≡ roomForAll t by
+  unfolding roomForAll
+  room-is a b c d e f x y r pa pb pc pd pe pf px py pr =
+      pr ∙ (λ i. px i && py i) ∙ (λ i. (pa i && (pb i && pc i)) && (pd i && (pe i && pf i)))
+
+  pub rooms : roomForAll t by ≡ true → ((frames ≡ true) × (matches ≡ true) × (misses ≡ true)) × ((extras ≡ true) × (switched ≡ true) × (objects ≡ true))
+  unfolding roomForAll
+  rooms h =
+      let p = halves (frames && (matches && misses)) (extras && (switched && objects)) h in
+      (all-three frames matches misses (p .0), all-three extras switched objects (p .1))
+
+  pub raised-is : (d : Float) (n₁ n₂ n₃ n₄ n₅ n₆ : ℤ) → n₁ ≡ t .«frame_id» +ℤ pos 1 → n₂ ≡ t .«num_matches» +ℤ pos (by .matches)
+      → n₃ ≡ t .«num_misses» +ℤ pos (by .misses) → n₄ ≡ t .«num_false_positives» +ℤ pos (by .«false_positives»)
+      → n₅ ≡ t .«num_switches» +ℤ pos (by .switches) → n₆ ≡ t .«num_objects» +ℤ pos (by .objects)
+      → record { slots = t .slots; used = t .used; «frame_id» = n₁; «num_matches» = n₂; «num_misses» = n₃; «num_false_positives» = n₄; «num_switches» = n₅; «num_objects» = n₆; «total_distance» = d }
+      ≡ raisedBy t by d
+  unfolding raisedBy
+  raised-is d n₁ n₂ n₃ n₄ n₅ n₆ p₁ p₂ p₃ p₄ p₅ p₆ =
+      λ i. record { slots = t .slots; used = t .used; «frame_id» = p₁ i; «num_matches» = p₂ i; «num_misses» = p₃ i; «num_false_positives» = p₄ i; «num_switches» = p₅ i; «num_objects» = p₆ i; «total_distance» = d }
+
+-- ---- refusal 1 for the counters
+pub signs-are : (t : ExtendedMOTAccumulator) (a b c d e f x y r : Bool) → a ≡ nonNeg (t .«frame_id») → b ≡ nonNeg (t .«num_matches») → c ≡ nonNeg (t .«num_misses»)
+    → d ≡ nonNeg (t .«num_false_positives») → e ≡ nonNeg (t .«num_switches») → f ≡ nonNeg (t .«num_objects»)
+    → x ≡ (a && (b && c)) → y ≡ (d && (e && f)) → r ≡ (x && y) → r ≡ totalsSound t
+unfolding totalsSound
+signs-are t a b c d e f x y r pa pb pc pd pe pf px py pr =
+    pr ∙ (λ i. px i && py i) ∙ (λ i. (pa i && (pb i && pc i)) && (pd i && (pe i && pf i)))

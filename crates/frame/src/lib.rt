@@ -1,0 +1,171 @@
+// A frame whose pairing is handed in, booked whole or refused, over a sound state.
+// Ported from norfair-rs, internal/motmetrics/accumulator.rs, which follows py-motmetrics (NOTICE).
+use rows::ExtendedMOTAccumulator;
+ghost use mathlib.Core.Path.{_≡_};
+ghost use mathlib.Core.Bool.{true, _&&_};
+ghost use Prim.Native.Nat.{_≤_};
+ghost use lib.ListN.{length};
+ghost use Rattle.rows.specs.Rows.{Lies, rowAt};
+ghost use Rattle.frame.specs.Frame.{totalsSound, soundState, Few, nextFrame, roomForAll, raisedBy, frameOf};
+
+// What a frame adds to each of the six counters.
+pub struct Shares {
+    pub matches: usize,
+    pub misses: usize,
+    pub false_positives: usize,
+    pub switches: usize,
+    pub objects: usize,
+}
+
+// The number of a frame, and the state: beside a refusal the one that came.
+pub struct Booked {
+    pub number: u32,
+    pub state: ExtendedMOTAccumulator,
+}
+
+// The number of the frame to come. At the last number it stays: such a frame is refused in the end.
+fn next_frame(frame_id: i32) -> i32
+    ensures { λ r. ⌜ r ≡ nextFrame «frame_id» ⌝ }
+{
+    if counts::room_for(frame_id, 1) {
+        counts::add(frame_id, 1)
+    } else {
+        frame_id
+    }
+}
+
+fn all_three(a: bool, b: bool, c: bool) -> bool
+    ensures { λ r. ⌜ r ≡ (a && (b && c)) ⌝ }
+{
+    if !a {
+        return false;
+    }
+    if !b {
+        return false;
+    }
+    c
+}
+
+fn both(a: bool, b: bool) -> bool
+    ensures { λ r. ⌜ r ≡ (a && b) ⌝ }
+{
+    if a { b } else { false }
+}
+
+// Whether each counter can take its share of a frame.
+fn room_for_all(t: ExtendedMOTAccumulator, by: Shares) -> bool
+    requires { ⌜ Few by ⌝ }
+    ensures { λ r. ⌜ r ≡ roomForAll t by ⌝ }
+{
+    let a = counts::room_for(t.frame_id, 1);
+    let b = counts::room_for(t.num_matches, by.matches);
+    let c = counts::room_for(t.num_misses, by.misses);
+    let d = counts::room_for(t.num_false_positives, by.false_positives);
+    let e = counts::room_for(t.num_switches, by.switches);
+    let f = counts::room_for(t.num_objects, by.objects);
+    both(all_three(a, b, c), all_three(d, e, f))
+}
+
+fn raised_by(t: ExtendedMOTAccumulator, by: Shares, distance: f64) -> ExtendedMOTAccumulator
+    requires { ⌜ Few by ⌝ }
+    requires { ⌜ roomForAll t by ≡ true ⌝ }
+    ensures { λ r. ⌜ r ≡ raisedBy t by distance ⌝ }
+{
+    let mut u = t;
+    u.frame_id = counts::add(t.frame_id, 1);
+    u.num_matches = counts::add(t.num_matches, by.matches);
+    u.num_misses = counts::add(t.num_misses, by.misses);
+    u.num_false_positives = counts::add(t.num_false_positives, by.false_positives);
+    u.num_switches = counts::add(t.num_switches, by.switches);
+    u.num_objects = counts::add(t.num_objects, by.objects);
+    u.total_distance = distance;
+    u
+}
+
+// Booked on trial first; then 5, and then 7, by what came of it.
+pub fn book_frame(
+    s: ExtendedMOTAccumulator,
+    gt_ids: &[i32],
+    pred_ids: &[i32],
+    pair_rows: &[usize; 64],
+    pair_cols: &[usize; 64],
+    left_rows: &[usize; 64],
+    pairs: usize,
+    lefts: usize,
+    extra: usize,
+    distance: f64,
+) -> Booked
+    requires { ⌜ s .used ≤ 256 ⌝ }
+    requires { ⌜ Lies (length (now «gt_ids»)) (length (now «pred_ids»)) (now «pair_rows») (now «pair_cols») (now «left_rows») pairs lefts ⌝ }
+    requires { ⌜ (length (now «gt_ids») ≤ 64) × (extra ≤ 64) ⌝ }
+    ensures { λ r. ⌜ r ≡ frameOf s (rowAt (now («gt_ids» .entry)) (now («pred_ids» .entry)) (now («pair_rows» .entry)) (now («pair_cols» .entry)) (now («left_rows» .entry)) pairs) pairs lefts extra (length (now («gt_ids» .entry))) distance ⌝ }
+{
+    let frame = next_frame(s.frame_id);
+    let t = rows::book_rows(
+        s,
+        gt_ids,
+        pred_ids,
+        pair_rows,
+        pair_cols,
+        left_rows,
+        pairs,
+        lefts,
+        frame,
+    );
+    if t.full {
+        return Booked {
+            number: 5,
+            state: s,
+        };
+    }
+    if t.over {
+        return Booked {
+            number: 7,
+            state: s,
+        };
+    }
+    let u = t.state;
+    let by = Shares {
+        matches: pairs,
+        misses: lefts,
+        false_positives: extra,
+        switches: t.switches,
+        objects: gt_ids.len(),
+    };
+    if !room_for_all(u, by) {
+        return Booked {
+            number: 7,
+            state: s,
+        };
+    }
+    let booked = raised_by(u, by, distance);
+    Booked {
+        number: 0,
+        state: booked,
+    }
+}
+
+// Whether none of the six counters is negative.
+fn totals_sound(s: ExtendedMOTAccumulator) -> bool
+    ensures { λ r. ⌜ r ≡ totalsSound s ⌝ }
+{
+    let a = counts::not_negative(s.frame_id);
+    let b = counts::not_negative(s.num_matches);
+    let c = counts::not_negative(s.num_misses);
+    let d = counts::not_negative(s.num_false_positives);
+    let e = counts::not_negative(s.num_switches);
+    let f = counts::not_negative(s.num_objects);
+    both(all_three(a, b, c), all_three(d, e, f))
+}
+
+// Whether a state that is handed in is one that refusal 1 lets by.
+pub fn sound(s: ExtendedMOTAccumulator) -> bool
+    ensures { λ r. ⌜ r ≡ soundState s ⌝ }
+{
+    if !totals_sound(s) {
+        return false;
+    }
+    let table = s.slots;
+    let used = s.used;
+    slots::sound(table, used)
+}

@@ -1,0 +1,5 @@
+pub mod Rooms
+pub mod Zeros
+pub mod Final
+pub mod Kept
+pub mod Examples

@@ -1,0 +1,4 @@
+pub mod Lookups
+pub mod Tables
+pub mod Faults
+pub mod Kept

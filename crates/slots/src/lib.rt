@@ -1,0 +1,188 @@
+// A table of truth ids: a slot for each, looked up, booked, and tested for soundness.
+// Ported from norfair-rs, internal/motmetrics/accumulator.rs, which follows py-motmetrics (NOTICE): arrays with a used
+// count where the Rust has two hash maps.
+use lifecycle::TrackLifecycle;
+ghost use mathlib.Core.Path.{_≡_};
+ghost use Prim.Native.Nat.{_≤_};
+ghost use lib.ListN.{length, take};
+ghost use Rattle.slots.specs.Slots.{newSlot, seekOf, switches, missedSlot, matchedSlot, bookedSlot, idsFilled, distinctOf, countsSound, soundOf};
+
+// The prediction that a truth id was last matched to, or none yet.
+pub enum Partner {
+    Nobody,
+    Id(i32),
+}
+
+pub struct Slot {
+    pub lifecycle: TrackLifecycle,
+    pub partner: Partner,
+}
+
+// Where an id stands.
+pub enum Lookup {
+    At(usize),
+    Absent,
+}
+
+// A slot after a frame in which its id stood: the slot as it was, and over, where a count would pass.
+pub struct BookedSlot {
+    pub slot: Slot,
+    pub over: bool,
+    pub switched: bool,
+}
+
+// A slot for an id that is booked for the first time.
+pub fn new_slot(id: i32, frame: i32) -> Slot
+    ensures { λ r. ⌜ r ≡ newSlot id frame ⌝ }
+{
+    Slot {
+        lifecycle: TrackLifecycle::new(id, frame),
+        partner: Partner::Nobody,
+    }
+}
+
+// The first place that holds the id.
+pub fn seek(ids: &[i32], id: i32) -> Lookup
+    ensures { λ r. ⌜ r ≡ seekOf (now (ids .entry)) id ⌝ }
+{
+    let n = ids.len();
+    let mut i: usize = 0;
+    while i < n {
+        if counts::same_id(ids[i], id) {
+            return Lookup::At(i);
+        }
+        i = i + 1;
+    }
+    Lookup::Absent
+}
+
+// Whether a match is a switch: the id was matched before, and to another.
+fn is_switch(last: Partner, to: i32) -> bool
+    ensures { λ r. ⌜ r ≡ switches last to ⌝ }
+{
+    let Partner::Id(before) = last else {
+        return false;
+    };
+    !counts::same_id(before, to)
+}
+
+fn book_missed(slot: Slot, frame: i32) -> BookedSlot
+    ensures { λ r. ⌜ r ≡ missedSlot slot frame ⌝ }
+{
+    let it = slot.lifecycle;
+    let partner = slot.partner;
+    if !it.room_to_miss() {
+        return BookedSlot {
+            slot: slot,
+            over: true,
+            switched: false,
+        };
+    }
+    let missed = it.missed(frame);
+    BookedSlot {
+        slot: Slot {
+            lifecycle: missed,
+            partner: partner,
+        },
+        over: false,
+        switched: false,
+    }
+}
+
+fn book_matched(slot: Slot, to: i32, frame: i32) -> BookedSlot
+    ensures { λ r. ⌜ r ≡ matchedSlot slot to frame ⌝ }
+{
+    let it = slot.lifecycle;
+    let partner = slot.partner;
+    if !it.room_to_match() {
+        return BookedSlot {
+            slot: slot,
+            over: true,
+            switched: false,
+        };
+    }
+    let switched = is_switch(partner, to);
+    let matched = it.matched(frame);
+    BookedSlot {
+        slot: Slot {
+            lifecycle: matched,
+            partner: Partner::Id(to),
+        },
+        over: false,
+        switched: switched,
+    }
+}
+
+// A slot after a frame that its id was matched in, or missed: matched to is an id, or nobody.
+pub fn book_slot(slot: Slot, to: Partner, frame: i32) -> BookedSlot
+    ensures { λ r. ⌜ r ≡ bookedSlot slot to frame ⌝ }
+{
+    match to {
+        Partner::Nobody => book_missed(slot, frame),
+        Partner::Id(id) => book_matched(slot, id, frame),
+    }
+}
+
+// The ids of the first used slots, for a lookup; the places after them are 0. (A table has 256 places: callers ask that of a field.)
+pub fn ids_of(slots: [Slot; 256], used: usize) -> [i32; 256]
+    requires { ⌜ used ≤ 256 ⌝ }
+    ensures { λ r. ⌜ (r ≡ idsFilled slots used) × (length slots ≡ 256) ⌝ }
+{
+    let mut ids = [0i32; 256];
+    let mut i: usize = 0;
+    while i < used {
+        let slot = slots[i];
+        let it = slot.lifecycle;
+        let id = it.gt_id;
+        ids[i] = id;
+        i = i + 1;
+    }
+    ids
+}
+
+// Whether no id stands twice.
+pub fn distinct(ids: &[i32]) -> bool
+    ensures { λ r. ⌜ r ≡ distinctOf (now (ids .entry)) ⌝ }
+{
+    let n = ids.len();
+    let mut i: usize = 0;
+    while i < n {
+        let after = i + 1;
+        let Lookup::Absent = seek(&ids[after..], ids[i]) else {
+            return false;
+        };
+        i = after;
+    }
+    true
+}
+
+// Whether no slot in use has a negative count.
+fn counts_sound(slots: [Slot; 256], used: usize) -> bool
+    requires { ⌜ used ≤ 256 ⌝ }
+    ensures { λ r. ⌜ r ≡ countsSound (take used slots) ⌝ }
+{
+    let mut i: usize = 0;
+    while i < used {
+        let slot = slots[i];
+        let it = slot.lifecycle;
+        if !it.sound() {
+            return false;
+        }
+        i = i + 1;
+    }
+    true
+}
+
+// Whether a table that is handed in is one that refusal 1 lets by.
+pub fn sound(slots: [Slot; 256], used: usize) -> bool
+    ensures { λ r. ⌜ r ≡ soundOf slots used ⌝ }
+{
+    if used > 256 {
+        return false;
+    }
+    if !counts_sound(slots, used) {
+        return false;
+    }
+    let ids = ids_of(slots, used);
+    distinct(&ids[..used])
+}
