@@ -3,8 +3,10 @@
 mod boxes;
 mod port;
 mod rounds;
+mod search;
 
 fn main() {
     rounds::heading();
     boxes::bench();
+    search::bench();
 }

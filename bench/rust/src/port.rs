@@ -7,7 +7,13 @@ extern "C" {
     fn mot_iou_matrix(
         a: *const f64, a_len: usize, b: *const f64, b_len: usize, out: *mut f64, out_len: usize,
     ) -> u32;
+    fn mot_linear_sum_assignment(
+        cost: *const f64, cost_len: usize, rows: usize, cols: usize, max_cost: f64, out: *mut usize, out_len: usize,
+    ) -> u32;
 }
+
+/// Places of a solver's answer: 5 counts, then 64 each of the pairs' rows, their columns, the rows left, the columns left.
+pub const FLAT: usize = 5 + 4 * 64;
 
 pub fn compute_iou_distance_matrix(gt: &[f64], pred: &[f64], out: &mut [f64]) -> u32 {
     // SAFETY: the callee demands nothing, and reads and writes within the three runs alone
@@ -21,4 +27,11 @@ pub fn compute_iou_distance_matrix(gt: &[f64], pred: &[f64], out: &mut [f64]) ->
 pub fn iou_matrix(a: &[f64], b: &[f64], out: &mut [f64]) -> u32 {
     // SAFETY: as above
     unsafe { mot_iou_matrix(a.as_ptr(), a.len(), b.as_ptr(), b.len(), out.as_mut_ptr(), out.len()) }
+}
+
+pub fn linear_sum_assignment(cost: &[f64], rows: usize, cols: usize, max_cost: f64, out: &mut [usize]) -> u32 {
+    // SAFETY: as above
+    unsafe {
+        mot_linear_sum_assignment(cost.as_ptr(), cost.len(), rows, cols, max_cost, out.as_mut_ptr(), out.len())
+    }
 }

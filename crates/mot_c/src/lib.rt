@@ -1,4 +1,6 @@
 // The port for C and Rust: each slice is a pointer and a length. Every function promises what the call behind it does.
+mod solver;
+
 ghost use mathlib.Core.Path.{_≡_};
 ghost use lib.ListN.{length};
 ghost use Rattle.matrix.specs.Matrix.{distanceMatrixNo, iouMatrixNo, matrixAfter};
