@@ -3,4 +3,5 @@ pub mod Ways
 pub mod Fitting
 pub mod Agreement
 pub mod Finals
+pub mod Soundness
 pub mod Examples

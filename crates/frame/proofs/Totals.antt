@@ -11,7 +11,7 @@ use Rattle.rows.specs.declared.ExtendedMOTAccumulator.{ExtendedMOTAccumulator}
 use Rattle.frame.specs.declared.Shares.{Shares}
 use Rattle.frame.specs.Frame.{totalsSound, roomForAll, raisedBy}
 
-halves : (a b : Bool) → (a && b) ≡ true → (a ≡ true) × (b ≡ true)
+pub halves : (a b : Bool) → (a && b) ≡ true → (a ≡ true) × (b ≡ true)
 halves true b e = (refl, e)
 halves false b e = absurd (true≢false (sym e))
 
