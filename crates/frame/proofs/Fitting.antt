@@ -7,6 +7,7 @@ use native.Mathlib.Nat.{not-suc-le-zero, le-of-suc-le-suc}
 use lib.IntN.{ℤ}
 use lib.ListN.{length, getD, set}
 use Rattle.counts.specs.Counts.{fits}
+use Rattle.counts.proofs.Tests.{both}
 use Rattle.lifecycle.specs.Lifecycle.{countsFit, roomToMatch, roomToMiss, matchedAfter, missedAfter, fragments}
 use Rattle.lifecycle.proofs.Final.{match-final, miss-final, match-past, miss-past}
 use Rattle.lifecycle.proofs.Kept.{match-id, miss-id}
@@ -16,10 +17,6 @@ use Rattle.slots.specs.declared.Partner.the-variants.{Nobody, Id}
 use Rattle.slots.specs.declared.BookedSlot.{BookedSlot}
 use Rattle.slots.specs.Slots.{newSlot, noSlot, idOf, bookedSlot, missedSlot, matchedSlot}
 use Rattle.frame.specs.Unbounded.{nextSlot, switchOf, allFit}
-
-both : (a b : Bool) → (a && b) ≡ true → (a ≡ true) × (b ≡ true)
-both true b e = (refl, e)
-both false b e = absurd (true≢false (sym e))
 
 -- ---- one slot
 pub next-id : (s : Slot) (to : Partner) (f : ℤ) → idOf (nextSlot s to f) ≡ idOf s

@@ -13,10 +13,10 @@ use lib.Signed.{nonNeg}
 use lib.Ieee.{Float}
 use Rattle.counts.proofs.Ids.{same-refl}
 use Rattle.counts.proofs.Sums.{stays-above}
+use Rattle.counts.proofs.Tests.{both, all-three}
 use Rattle.counts.specs.Counts.{sameId}
 use Rattle.lifecycle.specs.declared.TrackLifecycle.{TrackLifecycle}
 use Rattle.lifecycle.proofs.Kept.{fresh-sound}
-use Rattle.lifecycle.proofs.Rooms.{all-three}
 use Rattle.slots.specs.declared.Slot.{Slot}
 use Rattle.slots.specs.declared.Lookup.{Lookup}
 use Rattle.slots.specs.declared.Lookup.the-variants.{At, Absent}
@@ -32,8 +32,8 @@ use Rattle.rows.specs.declared.Spot.{Spot}
 use Rattle.rows.specs.declared.Step.{Step}
 use Rattle.rows.specs.Rows.{spotOf, stepOf, rowSpot, rowStep, bookRow, trialAfter}
 use Rattle.frame.specs.declared.Shares.{Shares}
+use Rattle.frame.specs.Sound.{SoundState}
 use Rattle.frame.specs.Frame.{totalsSound, soundState, nextFrame, sharesOf, roomForAll, raisedBy, trialNo, closed, frameOf}
-use Rattle.frame.proofs.Totals.{halves}
 use Rattle.frame.proofs.Finals.{trial-good}
 
 -- ---- one slot put at a place
@@ -152,12 +152,21 @@ unfolding trialAfter bookRow totalsSound
 totals-sound-kept rows f s zero = refl
 totals-sound-kept rows f s (suc k) = totals-sound-kept rows f s k
 
+signs : (t : ExtendedMOTAccumulator) → totalsSound t ≡ true
+    → ((nonNeg (t .«frame_id») ≡ true) × (nonNeg (t .«num_matches») ≡ true) × (nonNeg (t .«num_misses») ≡ true))
+    × ((nonNeg (t .«num_false_positives») ≡ true) × (nonNeg (t .«num_switches») ≡ true) × (nonNeg (t .«num_objects») ≡ true))
+unfolding totalsSound
+signs t e =
+    let p = both (nonNeg (t .«frame_id») && (nonNeg (t .«num_matches») && nonNeg (t .«num_misses»))) (nonNeg (t .«num_false_positives») && (nonNeg (t .«num_switches») && nonNeg (t .«num_objects»))) e in (
+      all-three (nonNeg (t .«frame_id»)) (nonNeg (t .«num_matches»)) (nonNeg (t .«num_misses»)) (p .0),
+      all-three (nonNeg (t .«num_false_positives»)) (nonNeg (t .«num_switches»)) (nonNeg (t .«num_objects»)) (p .1),
+    )
+
 raised-sound : (t : ExtendedMOTAccumulator) (by : Shares) (d : Float) → totalsSound t ≡ true → totalsSound (raisedBy t by d) ≡ true
 unfolding totalsSound raisedBy
 raised-sound t by d e =
-    let p = halves (nonNeg (t .«frame_id») && (nonNeg (t .«num_matches») && nonNeg (t .«num_misses»))) (nonNeg (t .«num_false_positives») && (nonNeg (t .«num_switches») && nonNeg (t .«num_objects»))) e in
-    let x = all-three (nonNeg (t .«frame_id»)) (nonNeg (t .«num_matches»)) (nonNeg (t .«num_misses»)) (p .0) in
-    let y = all-three (nonNeg (t .«num_false_positives»)) (nonNeg (t .«num_switches»)) (nonNeg (t .«num_objects»)) (p .1) in
+    let x = signs t e .0 in
+    let y = signs t e .1 in
     rw (
       stays-above (t .«frame_id») 1 (x .0),
       stays-above (t .«num_matches») (by .matches) (x .1),
@@ -169,7 +178,7 @@ raised-sound t by d e =
 
 state-parts : (s : ExtendedMOTAccumulator) → soundState s ≡ true → (totalsSound s ≡ true) × (soundOf (s .slots) (s .used) ≡ true)
 unfolding soundState
-state-parts s e = halves (totalsSound s) (soundOf (s .slots) (s .used)) e
+state-parts s e = both (totalsSound s) (soundOf (s .slots) (s .used)) e
 
 table-kept : (t : ExtendedMOTAccumulator) (by : Shares) (d : Float) → soundOf (t .slots) (t .used) ≡ true → soundOf (raisedBy t by d .slots) (raisedBy t by d .used) ≡ true
 unfolding raisedBy
@@ -178,6 +187,26 @@ table-kept t by d a = a
 state-made : (t : ExtendedMOTAccumulator) (by : Shares) (d : Float) → totalsSound t ≡ true → soundOf (t .slots) (t .used) ≡ true → soundState (raisedBy t by d) ≡ true
 unfolding soundState
 state-made t by d e a = rw (raised-sound t by d e) (table-kept t by d a)
+
+-- THE PLAIN READING OF REFUSAL 1 FOR A STATE
+pub state-reads : (s : ExtendedMOTAccumulator) → length (s .slots) ≡ 256 → soundState s ≡ true → SoundState s
+state-reads s l e =
+    let h = state-parts s e in
+    let x = signs s (h .0) in
+    record {
+      frame = x .0 .0;
+      matches = x .0 .1;
+      misses = x .0 .2;
+      false-positives = x .1 .0;
+      switches = x .1 .1;
+      objects = x .1 .2;
+      table = sound-reads (s .slots) (s .used) l (h .1);
+    }
+
+pub state-is : (s : ExtendedMOTAccumulator) → length (s .slots) ≡ 256 → SoundState s → soundState s ≡ true
+unfolding soundState totalsSound
+state-is s l a =
+    rw (a .frame, a .matches, a .misses, a .false-positives, a .switches, a .objects, sound-is (s .slots) (s .used) l (a .table))
 
 pick-sound : (b : Bool) (x y : ExtendedMOTAccumulator) → soundState x ≡ true → soundState y ≡ true → soundState (cond b x y) ≡ true
 pick-sound true x y p q = p

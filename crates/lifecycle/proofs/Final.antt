@@ -5,9 +5,9 @@ use mathlib.Core.Bool.{Bool, true, false, _&&_, true≢false}
 use lib.IntN.{ℤ, pos, _+ℤ_}
 use Rattle.counts.specs.Counts.{fits, roomFor, oneIf}
 use Rattle.counts.proofs.Sums.{stays-past}
+use Rattle.counts.proofs.Tests.{all-three}
 use Rattle.lifecycle.specs.declared.TrackLifecycle.{TrackLifecycle}
 use Rattle.lifecycle.specs.Lifecycle.{fragments, roomToMatch, roomToMiss, matchedAfter, missedAfter, countsFit}
-use Rattle.lifecycle.proofs.Rooms.{all-three}
 
 pub match-final : (t : TrackLifecycle) (f : ℤ) → roomToMatch t ≡ countsFit (matchedAfter t f)
 unfolding roomToMatch countsFit matchedAfter

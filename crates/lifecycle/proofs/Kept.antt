@@ -7,9 +7,9 @@ use lib.IntN.{ℤ, pos, _+ℤ_}
 use lib.Signed.{nonNeg}
 use Rattle.counts.specs.Counts.{oneIf}
 use Rattle.counts.proofs.Sums.{stays-above}
+use Rattle.counts.proofs.Tests.{all-three}
 use Rattle.lifecycle.specs.declared.TrackLifecycle.{TrackLifecycle}
 use Rattle.lifecycle.specs.Lifecycle.{fresh, fragments, soundCounts, matchedAfter, missedAfter}
-use Rattle.lifecycle.proofs.Rooms.{all-three}
 
 module _ (t : TrackLifecycle) (f : ℤ) where
   pub match-id : matchedAfter t f .«gt_id» ≡ t .«gt_id»
