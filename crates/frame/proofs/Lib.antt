@@ -1,5 +1,4 @@
 pub mod Totals
-pub mod Ways
 pub mod Fitting
 pub mod Agreement
 pub mod Finals
