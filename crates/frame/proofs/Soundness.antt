@@ -6,7 +6,7 @@ use Prim.Native.Nat.{ℕ, zero, suc, _<_, _≤_, _+_}
 use native.Mathlib.Omega.{arith}
 use borrow.Author.Tests.{ltb-true, eqb-true, eqb-false}
 use lib.Dec.{ltb, eqb}
-use lib.IntN.{ℤ, pos}
+use lib.IntN.{ℤ}
 use lib.ListN.{length, set, getD}
 use lib.Seq.{set-getD, getD-set-same, getD-set-other}
 use lib.Signed.{nonNeg}
@@ -15,7 +15,6 @@ use Rattle.counts.proofs.Ids.{same-refl}
 use Rattle.counts.proofs.Sums.{stays-above}
 use Rattle.counts.proofs.Tests.{both, all-three}
 use Rattle.counts.specs.Counts.{sameId}
-use Rattle.lifecycle.specs.declared.TrackLifecycle.{TrackLifecycle}
 use Rattle.lifecycle.proofs.Kept.{fresh-sound}
 use Rattle.slots.specs.declared.Slot.{Slot}
 use Rattle.slots.specs.declared.Lookup.{Lookup}

@@ -1,6 +1,6 @@
 -- Refusal 7 is settled on final values: there is room for an update exactly where every count fits after it, and a
 -- count that has passed stays past. Assumes nothing.
-use mathlib.Core.Path.{_≡_, refl, sym, ap, _∙_}
+use mathlib.Core.Path.{_≡_, refl, sym}
 use mathlib.Core.Bool.{Bool, true, false, _&&_, true≢false}
 use lib.IntN.{ℤ, pos, _+ℤ_}
 use Rattle.counts.specs.Counts.{fits, roomFor, oneIf}
