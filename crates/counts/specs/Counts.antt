@@ -1,6 +1,6 @@
 -- Ids and counters over the integers. A counter is an i32 in the code; here it may pass what an i32 holds, so that
 -- refusal 7 can be said of the value that it would have.
-use mathlib.Core.Bool.{Bool, true, false, cond}
+use mathlib.Core.Bool.{Bool, false, cond}
 use Prim.Native.Nat.{ℕ}
 use lib.Dec.{eqb}
 use lib.IntN.{ℤ, pos, negsuc, _+ℤ_}

@@ -3,14 +3,14 @@
 use mathlib.Core.Path.{_≡_, refl, sym, ap, _∙_, subst}
 use mathlib.Core.Bool.{Bool, true, false, cond, _||_}
 use mathlib.Core.List.{List, [], _∷_, _++_, map, map-append}
-use Prim.Native.Nat.{ℕ, zero, suc, _<_, _≤_, _+_}
+use Prim.Native.Nat.{ℕ, _<_, _≤_, _+_}
 use native.Mathlib.Omega.{arith}
 use native.Mathlib.Numerals.{add-one}
 use borrow.Author.Tests.{ltb-true, ltb-false}
 use lib.Dec.{ltb}
 use lib.IntN.{ℤ}
 use lib.ListN.{length, take, set, getD, length-append, length-map, length-set}
-use lib.Seq.{take-set-lt, take-suc-set, map-set-same, getD-take, length-take-le}
+use lib.Seq.{take-set-lt, take-suc-set, map-set-same, getD-take}
 use Rattle.counts.specs.Counts.{oneIf}
 use Rattle.lifecycle.specs.Lifecycle.{countsFit}
 use Rattle.slots.specs.declared.Slot.{Slot}

@@ -1,8 +1,7 @@
 -- Document 01's marked example 13, computed by the definitions with the pairings handed in: truth 7 to 1, a miss, then to 2: one
 -- switch. Assumes nothing.
 use mathlib.Core.Path.{_≡_, refl}
-use mathlib.Core.Bool.{Bool, true, false}
-use mathlib.Core.List.{List, [], _∷_}
+use mathlib.Core.List.{[], _∷_}
 use Prim.Native.Nat.{ℕ}
 use lib.IntN.{ℤ, pos}
 use lib.ListN.{replicate}

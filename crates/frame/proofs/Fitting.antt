@@ -1,25 +1,21 @@
 -- Whether no count has passed, as slots are booked without a bound. Assumes nothing.
-use mathlib.Core.Path.{_≡_, refl, sym, ap, _∙_}
+use mathlib.Core.Path.{_≡_, refl, _∙_}
 use mathlib.Core.Bool.{Bool, true, false, _&&_, true≢false}
-use mathlib.Core.List.{List, [], _∷_, _++_, map}
-use Prim.Native.Nat.{ℕ, zero, suc, _<_, _≤_, _+_}
+use mathlib.Core.List.{List, [], _∷_, _++_}
+use Prim.Native.Nat.{ℕ, zero, suc, _<_}
 use native.Mathlib.Nat.{not-suc-le-zero, le-of-suc-le-suc}
 use lib.IntN.{ℤ}
 use lib.ListN.{length, getD, set}
 use Rattle.counts.specs.Counts.{fits}
-use Rattle.lifecycle.specs.Lifecycle.{countsFit, roomToMatch, roomToMiss, matchedAfter, missedAfter, fragments}
+use Rattle.counts.proofs.Tests.{both}
+use Rattle.lifecycle.specs.Lifecycle.{countsFit, matchedAfter, missedAfter, fragments}
 use Rattle.lifecycle.proofs.Final.{match-final, miss-final, match-past, miss-past}
 use Rattle.lifecycle.proofs.Kept.{match-id, miss-id}
 use Rattle.slots.specs.declared.Slot.{Slot}
 use Rattle.slots.specs.declared.Partner.{Partner}
 use Rattle.slots.specs.declared.Partner.the-variants.{Nobody, Id}
-use Rattle.slots.specs.declared.BookedSlot.{BookedSlot}
 use Rattle.slots.specs.Slots.{newSlot, noSlot, idOf, bookedSlot, missedSlot, matchedSlot}
 use Rattle.frame.specs.Unbounded.{nextSlot, switchOf, allFit}
-
-both : (a b : Bool) → (a && b) ≡ true → (a ≡ true) × (b ≡ true)
-both true b e = (refl, e)
-both false b e = absurd (true≢false (sym e))
 
 -- ---- one slot
 pub next-id : (s : Slot) (to : Partner) (f : ℤ) → idOf (nextSlot s to f) ≡ idOf s

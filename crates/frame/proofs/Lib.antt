@@ -1,6 +1,6 @@
 pub mod Totals
-pub mod Ways
 pub mod Fitting
 pub mod Agreement
 pub mod Finals
+pub mod Soundness
 pub mod Examples

@@ -1,19 +1,14 @@
 -- The six counters of a frame, each by itself. Assumes nothing.
-use mathlib.Core.Path.{_≡_, refl, sym, ap, _∙_}
-use mathlib.Core.Bool.{Bool, true, false, _&&_, true≢false}
-use Prim.Native.Nat.{ℕ, _≤_}
+use mathlib.Core.Path.{_≡_, _∙_}
+use mathlib.Core.Bool.{Bool, true, _&&_}
 use lib.IntN.{ℤ, pos, _+ℤ_}
 use lib.Signed.{nonNeg}
 use lib.Ieee.{Float}
 use Rattle.counts.specs.Counts.{roomFor}
-use Rattle.lifecycle.proofs.Rooms.{all-three}
+use Rattle.counts.proofs.Tests.{both, all-three}
 use Rattle.rows.specs.declared.ExtendedMOTAccumulator.{ExtendedMOTAccumulator}
 use Rattle.frame.specs.declared.Shares.{Shares}
 use Rattle.frame.specs.Frame.{totalsSound, roomForAll, raisedBy}
-
-halves : (a b : Bool) → (a && b) ≡ true → (a ≡ true) × (b ≡ true)
-halves true b e = (refl, e)
-halves false b e = absurd (true≢false (sym e))
 
 module _ (t : ExtendedMOTAccumulator) (by : Shares) where
   abbrev frames : Bool
@@ -43,7 +38,7 @@ module _ (t : ExtendedMOTAccumulator) (by : Shares) where
   pub rooms : roomForAll t by ≡ true → ((frames ≡ true) × (matches ≡ true) × (misses ≡ true)) × ((extras ≡ true) × (switched ≡ true) × (objects ≡ true))
   unfolding roomForAll
   rooms h =
-      let p = halves (frames && (matches && misses)) (extras && (switched && objects)) h in
+      let p = both (frames && (matches && misses)) (extras && (switched && objects)) h in
       (all-three frames matches misses (p .0), all-three extras switched objects (p .1))
 
   pub raised-is : (d : Float) (n₁ n₂ n₃ n₄ n₅ n₆ : ℤ) → n₁ ≡ t .«frame_id» +ℤ pos 1 → n₂ ≡ t .«num_matches» +ℤ pos (by .matches)

@@ -1,5 +1,5 @@
 -- Document 01, "Lifecycles and events" and refusals 5 and 7: a frame whose pairing is handed in.
-use mathlib.Core.Bool.{Bool, true, false, not, _&&_, cond}
+use mathlib.Core.Bool.{Bool, _&&_, cond}
 use Prim.Native.Nat.{ℕ, _+_, _≤_}
 use lib.Dec.{eqb}
 use lib.IntN.{ℤ, pos, _+ℤ_}

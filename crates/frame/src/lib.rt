@@ -1,12 +1,13 @@
 // A frame whose pairing is handed in, booked whole or refused, over a sound state.
 // Ported from norfair-rs, internal/motmetrics/accumulator.rs, which follows py-motmetrics (NOTICE).
 use rows::ExtendedMOTAccumulator;
+use rows::Trial;
 ghost use mathlib.Core.Path.{_≡_};
 ghost use mathlib.Core.Bool.{true, _&&_};
 ghost use Prim.Native.Nat.{_≤_};
 ghost use lib.ListN.{length};
 ghost use Rattle.rows.specs.Rows.{Lies, rowAt};
-ghost use Rattle.frame.specs.Frame.{totalsSound, soundState, Few, nextFrame, roomForAll, raisedBy, frameOf};
+ghost use Rattle.frame.specs.Frame.{totalsSound, soundState, Few, nextFrame, roomForAll, raisedBy, closed, frameOf};
 
 // What a frame adds to each of the six counters.
 pub struct Shares {
@@ -82,7 +83,38 @@ fn raised_by(t: ExtendedMOTAccumulator, by: Shares, distance: f64) -> ExtendedMO
     u
 }
 
-// Booked on trial first; then 5, and then 7, by what came of it.
+// 5, and then 7, by what came of the trial; then the counters raised on its table.
+fn close_frame(s: ExtendedMOTAccumulator, t: Trial, by: Shares, distance: f64) -> Booked
+    requires { ⌜ Few by ⌝ }
+    ensures { λ r. ⌜ r ≡ closed s t by distance ⌝ }
+{
+    if t.full {
+        return Booked {
+            number: 5,
+            state: s,
+        };
+    }
+    if t.over {
+        return Booked {
+            number: 7,
+            state: s,
+        };
+    }
+    let u = t.state;
+    if !room_for_all(u, by) {
+        return Booked {
+            number: 7,
+            state: s,
+        };
+    }
+    let booked = raised_by(u, by, distance);
+    Booked {
+        number: 0,
+        state: booked,
+    }
+}
+
+// A frame whose pairing is handed in: on trial first, and then closed.
 pub fn book_frame(
     s: ExtendedMOTAccumulator,
     gt_ids: &[i32],
@@ -112,19 +144,6 @@ pub fn book_frame(
         lefts,
         frame,
     );
-    if t.full {
-        return Booked {
-            number: 5,
-            state: s,
-        };
-    }
-    if t.over {
-        return Booked {
-            number: 7,
-            state: s,
-        };
-    }
-    let u = t.state;
     let by = Shares {
         matches: pairs,
         misses: lefts,
@@ -132,17 +151,7 @@ pub fn book_frame(
         switches: t.switches,
         objects: gt_ids.len(),
     };
-    if !room_for_all(u, by) {
-        return Booked {
-            number: 7,
-            state: s,
-        };
-    }
-    let booked = raised_by(u, by, distance);
-    Booked {
-        number: 0,
-        state: booked,
-    }
+    close_frame(s, t, by, distance)
 }
 
 // Whether none of the six counters is negative.

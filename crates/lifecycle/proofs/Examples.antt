@@ -1,8 +1,8 @@
 -- Document 01's marked examples 10 to 12, computed by the definitions. Assumes nothing.
 use mathlib.Core.Path.{_≡_, refl}
-use mathlib.Core.Bool.{Bool, true, false}
+use mathlib.Core.Bool.{true}
 use Prim.Native.Nat.{ℕ}
-use lib.IntN.{ℤ, pos}
+use lib.IntN.{pos}
 use lib.Ieee.{ofInt, div, lt, le}
 use Rattle.counts.specs.Counts.{fits}
 use Rattle.lifecycle.specs.declared.TrackLifecycle.{TrackLifecycle}

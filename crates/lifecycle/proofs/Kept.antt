@@ -1,15 +1,15 @@
 -- What an update keeps: the id, sound counts, and tracked at most detected where it was so. Assumes nothing.
-use mathlib.Core.Path.{_≡_, refl, sym, ap, _∙_}
-use mathlib.Core.Bool.{Bool, true, false, _&&_}
+use mathlib.Core.Path.{_≡_, refl, ap}
+use mathlib.Core.Bool.{Bool, true, _&&_}
 use Prim.Native.Nat.{ℕ, _≤_, _+_}
 use native.Mathlib.Omega.{arith}
 use lib.IntN.{ℤ, pos, _+ℤ_}
 use lib.Signed.{nonNeg}
 use Rattle.counts.specs.Counts.{oneIf}
 use Rattle.counts.proofs.Sums.{stays-above}
+use Rattle.counts.proofs.Tests.{all-three}
 use Rattle.lifecycle.specs.declared.TrackLifecycle.{TrackLifecycle}
 use Rattle.lifecycle.specs.Lifecycle.{fresh, fragments, soundCounts, matchedAfter, missedAfter}
-use Rattle.lifecycle.proofs.Rooms.{all-three}
 
 module _ (t : TrackLifecycle) (f : ℤ) where
   pub match-id : matchedAfter t f .«gt_id» ≡ t .«gt_id»

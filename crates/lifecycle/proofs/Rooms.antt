@@ -1,22 +1,17 @@
 -- Room for a match or a miss, count by count. Assumes nothing.
-use mathlib.Core.Path.{_≡_, refl, sym, ap, _∙_}
-use mathlib.Core.Bool.{Bool, true, false, _&&_, true≢false}
-use Prim.Native.Nat.{ℕ, _≤_}
+use mathlib.Core.Path.{_≡_}
+use mathlib.Core.Bool.{Bool, true, false}
+use Prim.Native.Nat.{_≤_}
 use lib.Dec.{lit≤}
-use lib.IntN.{ℤ, pos, _+ℤ_}
-use Rattle.counts.specs.Counts.{fits, roomFor, oneIf}
+use lib.IntN.{pos, _+ℤ_}
+use Rattle.counts.specs.Counts.{roomFor, oneIf}
+use Rattle.counts.proofs.Tests.{all-three}
 use Rattle.lifecycle.specs.declared.TrackLifecycle.{TrackLifecycle}
 use Rattle.lifecycle.specs.Lifecycle.{fragments, roomToMatch}
 
 pub one-few : (b : Bool) → oneIf b ≤ 2147483647
 one-few true = lit≤ tt
 one-few false = lit≤ tt
-
-pub all-three : (a b c : Bool) → (a && (b && c)) ≡ true → (a ≡ true) × (b ≡ true) × (c ≡ true)
-all-three true true true e = (refl, refl, refl)
-all-three true true false e = absurd (true≢false (sym e))
-all-three true false c e = absurd (true≢false (sym e))
-all-three false b c e = absurd (true≢false (sym e))
 
 pub rooms : (t : TrackLifecycle) → roomToMatch t ≡ true
     → (roomFor (t .«tracked_frames») 1 ≡ true) × (roomFor (t .«detected_frames») 1 ≡ true)

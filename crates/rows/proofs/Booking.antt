@@ -1,8 +1,8 @@
 -- One turn of the booking: its place lies in the table, and the array of ids follows the slots. Assumes nothing.
 use mathlib.Core.Path.{_≡_, refl, sym, ap, _∙_}
 use mathlib.Core.Bool.{Bool, true, false, cond, _||_}
-use mathlib.Core.List.{List, [], _∷_, _++_, map}
-use Prim.Native.Nat.{ℕ, zero, suc, _<_, _≤_, _+_, _-_}
+use mathlib.Core.List.{List, _++_, map}
+use Prim.Native.Nat.{ℕ, _<_, _≤_, _+_, _-_}
 use native.Mathlib.Omega.{arith}
 use native.Mathlib.Numerals.{add-one}
 use borrow.Author.Tests.{ltb-true, ltb-false}
@@ -23,7 +23,6 @@ use Rattle.rows.specs.declared.ExtendedMOTAccumulator.{ExtendedMOTAccumu
 use Rattle.rows.specs.declared.Row.{Row}
 use Rattle.rows.specs.declared.Spot.{Spot}
 use Rattle.rows.specs.declared.Step.{Step}
-use Rattle.rows.specs.declared.Trial.{Trial}
 use Rattle.rows.specs.Rows.{spotOf, rowSpot, stepOf, rowStep, withSlot, trialOf, stepped, bookRow, trialAfter}
 
 pub few-more : (b : Bool) (n k : ℕ) → n ≤ k → n + oneIf b ≤ k + 1

@@ -1,7 +1,7 @@
 -- `soundOf` is true exactly where none of document 01's three faults is there. Assumes nothing.
-use mathlib.Core.Path.{_≡_, refl, sym, ap, _∙_, subst}
+use mathlib.Core.Path.{_≡_, refl, sym, ap, _∙_}
 use mathlib.Core.Bool.{Bool, true, false, _&&_, true≢false}
-use mathlib.Core.List.{List, [], _∷_, map}
+use mathlib.Core.List.{List, [], _∷_}
 use Prim.Native.Nat.{ℕ, zero, suc, _<_, _≤_}
 use native.Mathlib.Nat.{not-suc-le-zero, le-of-suc-le-suc}
 use native.Mathlib.Omega.{arith}
@@ -13,18 +13,14 @@ use lib.ListN.{length, take, getD, List·getD-map}
 use lib.Seq.{getD-take, length-take-le}
 use Rattle.counts.specs.Counts.{sameId}
 use Rattle.counts.proofs.Ids.{same-eq, same-refl}
+use Rattle.counts.proofs.Tests.{both, all-three}
 use Rattle.lifecycle.specs.declared.TrackLifecycle.{TrackLifecycle}
 use Rattle.lifecycle.specs.Lifecycle.{soundCounts}
-use Rattle.lifecycle.proofs.Rooms.{all-three}
 use Rattle.slots.specs.declared.Slot.{Slot}
 use Rattle.slots.specs.Slots.{noSlot, idOf, idsOf, seekOf, isAbsent, distinctOf, countsSound, soundOf}
 use Rattle.slots.specs.Sound.{NotNegative, Sound}
 use Rattle.slots.proofs.Lookups.{absent-reads, absent-is, absent-yes}
 use Rattle.slots.proofs.Tables.{ids-long}
-
-both : (a b : Bool) → (a && b) ≡ true → (a ≡ true) × (b ≡ true)
-both true b e = (refl, e)
-both false b e = absurd (true≢false (sym e))
 
 not-same : (a b : ℤ) → (a ≡ b → ⊥) → (t : Bool) → sameId a b ≡ t → sameId a b ≡ false
 not-same a b h true e = absurd (h (same-eq a b e))

@@ -1,6 +1,6 @@
 -- What the booking of a slot keeps: its id, and sound counts. Assumes nothing.
 use mathlib.Core.Path.{_≡_, refl}
-use mathlib.Core.Bool.{Bool, true, false, cond}
+use mathlib.Core.Bool.{Bool, true, false}
 use lib.IntN.{ℤ}
 use Rattle.lifecycle.specs.declared.TrackLifecycle.{TrackLifecycle}
 use Rattle.lifecycle.specs.Lifecycle.{soundCounts, matchedAfter, missedAfter, roomToMatch, roomToMiss}

@@ -1,5 +1,4 @@
 -- `frame::room_for_all` meets its contract. Assumes nothing.
-use mathlib.Core.Path.{_≡_, sym, ap, _∙_}
 use lib.IntN.{ℤ}
 use Rattle.counts.specs.Counts.{roomFor}
 use Rattle.counts.proofs.Ids.{told}

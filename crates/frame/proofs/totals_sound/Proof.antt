@@ -1,5 +1,4 @@
 -- `frame::totals_sound` meets its contract. Assumes nothing.
-use mathlib.Core.Path.{_≡_, sym, ap, _∙_}
 use lib.Signed.{nonNeg}
 use Rattle.counts.proofs.Ids.{told}
 use Rattle.frame.proofs.Totals.{signs-are}

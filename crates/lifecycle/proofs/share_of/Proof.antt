@@ -3,11 +3,7 @@ use lib.Ieee.{ofBits}
 use mir.Facts.{toZ-ofZ}
 use Rattle.lifecycle.specs.Lifecycle.{shareOf}
 use Rattle.lifecycle.proofs.Zeros.{zero-yes, zero-no}
-use mathlib.Core.Path.{_≡_, sym, _∙_}
-use lib.IntN.{pos}
-use mir.Facts.{toZ-ofZ, sfits-lit}
-use borrow.Author.Tests.{eq-eqb, ne-eqb}
-use Rattle.counts.proofs.Ids.{same-bits}
+use mir.Facts.{toZ-ofZ}
 use borrow.Author.Needs.{needs}
 use Rattle.lifecycle.proofs.share_of.Statement.{statement}
 use Rattle.lifecycle.proofs.share_of.Tie as tie

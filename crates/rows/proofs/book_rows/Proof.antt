@@ -1,7 +1,6 @@
 -- `rows::book_rows` meets its contract. The rows booked so far are the definition's, and the array of ids is that of the slots. Assumes nothing.
 use mathlib.Core.Path.{_≡_, refl, sym, ap, _∙_}
-use mathlib.Core.Bool.{Bool, true, false, _||_}
-use Prim.Native.Nat.{ℕ, _<_, _≤_, _-_, _+_}
+use Prim.Native.Nat.{_<_, _≤_, _-_, _+_}
 use native.Mathlib.Omega.{arith}
 use lib.IntN.{pos}
 use lib.ListN.{length, take, set, getD, length-set}
@@ -11,7 +10,7 @@ use mir.Val.{toZ, ofZ}
 use mir.Facts.{toZ-ofZ}
 use Rattle.counts.proofs.Ids.{back}
 use Rattle.slots.specs.declared.Lookup.{Lookup}
-use Rattle.slots.specs.Slots.{idsFilled, idsOf, seekOf, idOf, noSlot}
+use Rattle.slots.specs.Slots.{idsFilled, seekOf, idOf, noSlot}
 use Rattle.rows.specs.declared.Row.{Row}
 use Rattle.rows.specs.declared.Spot.{Spot}
 use Rattle.rows.specs.declared.Step.{Step}

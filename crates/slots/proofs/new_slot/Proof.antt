@@ -1,5 +1,4 @@
 -- `slots::new_slot` meets its contract. Assumes nothing.
-use mathlib.Core.Path.{_∙_}
 use mir.Facts.{toZ-ofZ}
 use borrow.Author.Needs.{needs}
 use Rattle.slots.proofs.new_slot.Statement.{statement}

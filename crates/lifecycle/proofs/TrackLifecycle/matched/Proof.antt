@@ -1,12 +1,11 @@
 -- `lifecycle::TrackLifecycle::matched` meets its contract. Assumes nothing.
-use mathlib.Core.Path.{_≡_, sym, ap, _∙_}
-use mathlib.Core.Bool.{true}
+use mathlib.Core.Path.{_≡_, ap, _∙_}
 use lib.Dec.{lit≤}
 use lib.IntN.{ℤ, pos, _+ℤ_}
 use mir.Facts.{toZ-ofZ}
-use Rattle.counts.specs.Counts.{roomFor, oneIf}
+use Rattle.counts.specs.Counts.{oneIf}
 use Rattle.counts.proofs.Ids.{back, told}
-use Rattle.lifecycle.specs.Lifecycle.{roomToMatch, matchedAfter, fragments}
+use Rattle.lifecycle.specs.Lifecycle.{matchedAfter, fragments}
 use Rattle.lifecycle.proofs.Rooms.{rooms, one-few}
 use borrow.Author.Needs.{needs}
 use Rattle.lifecycle.proofs.TrackLifecycle.matched.Statement.{statement}

@@ -1,5 +1,4 @@
 -- `lifecycle::TrackLifecycle::room_to_miss` meets its contract. Assumes nothing.
-use mathlib.Core.Bool.{Bool}
 use lib.IntN.{ℤ}
 use Rattle.counts.specs.Counts.{roomFor}
 use Rattle.counts.proofs.Ids.{told}
