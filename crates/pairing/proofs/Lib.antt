@@ -1,0 +1,5 @@
+pub mod Copies
+pub mod Sums
+pub mod Numbers
+pub mod Placed
+pub mod Ways
