@@ -41,6 +41,11 @@ pub size-few : (z : ℤ) → nonNeg z ≡ true → SFits w32 z → natAbs z ≤ 
 size-few (pos n) t h = let l : n < 2147483648 = h .sfits in omega arith
 size-few (negsuc n) t h = absurd (true≢false (sym t))
 
+-- so that the sum of sizes is the sum of the counts
+pub size-is : (z : ℤ) → nonNeg z ≡ true → pos (natAbs z) ≡ z
+size-is (pos n) t = refl
+size-is (negsuc n) t = absurd (true≢false (sym t))
+
 -- ---- a sound table's lifecycles
 sound-fragments : (t : TrackLifecycle) → soundCounts t ≡ true → nonNeg (t .fragmentations) ≡ true
 unfolding soundCounts

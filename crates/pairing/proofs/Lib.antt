@@ -3,3 +3,4 @@ pub mod Sums
 pub mod Numbers
 pub mod Placed
 pub mod Ways
+pub mod Branches
