@@ -1,0 +1,71 @@
+// The extended accumulator's update: a frame paired, summed and booked whole, or refused with the state as it came.
+// Ported from norfair-rs, internal/motmetrics/accumulator.rs, which follows py-motmetrics (NOTICE).
+use frame::Booked;
+use rows::ExtendedMOTAccumulator;
+ghost use mathlib.Core.Path.{_≡_};
+ghost use Prim.Native.Nat.{_≤_};
+ghost use Rattle.extended.specs.Update.{frameAfter, updateOf};
+
+// The update of a state that is sound already: nothing of its table is tested again. Of soundness it needs the used count alone.
+pub fn update_sound(
+    s: ExtendedMOTAccumulator,
+    gt_ids: &[i32],
+    gt_bboxes: &[f64],
+    pred_ids: &[i32],
+    pred_bboxes: &[f64],
+    threshold: f64,
+) -> Booked
+    requires { ⌜ s .used ≤ 256 ⌝ }
+    ensures { λ r. ⌜ r ≡ frameAfter s (now («gt_ids» .entry)) (now («gt_bboxes» .entry)) (now («pred_ids» .entry)) (now («pred_bboxes» .entry)) threshold ⌝ }
+{
+    let total = s.total_distance;
+    let p = pairing::pair(
+        gt_ids.len(),
+        gt_bboxes,
+        pred_ids.len(),
+        pred_bboxes,
+        threshold,
+        total,
+    );
+    if p.number != 0 {
+        return Booked {
+            number: p.number,
+            state: s,
+        };
+    }
+    let pair_rows = p.pair_rows;
+    let pair_cols = p.pair_cols;
+    let left_rows = p.left_rows;
+    frame::book_frame(
+        s,
+        gt_ids,
+        pred_ids,
+        &pair_rows,
+        &pair_cols,
+        &left_rows,
+        p.pairs,
+        p.lefts,
+        p.extra,
+        p.distance,
+    )
+}
+
+// The update of any state by any frame: the lowest number that applies, and the state.
+pub fn update(
+    s: ExtendedMOTAccumulator,
+    gt_ids: &[i32],
+    gt_bboxes: &[f64],
+    pred_ids: &[i32],
+    pred_bboxes: &[f64],
+    threshold: f64,
+) -> Booked
+    ensures { λ r. ⌜ r ≡ updateOf s (now («gt_ids» .entry)) (now («gt_bboxes» .entry)) (now («pred_ids» .entry)) (now («pred_bboxes» .entry)) threshold ⌝ }
+{
+    if !frame::sound(s) {
+        return Booked {
+            number: 1,
+            state: s,
+        };
+    }
+    update_sound(s, gt_ids, gt_bboxes, pred_ids, pred_bboxes, threshold)
+}
