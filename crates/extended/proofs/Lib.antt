@@ -1,3 +1,4 @@
 pub mod Lying
 pub mod Ways
 pub mod Updates
+pub mod Raised
