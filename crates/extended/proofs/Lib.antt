@@ -2,3 +2,4 @@ pub mod Lying
 pub mod Ways
 pub mod Updates
 pub mod Raised
+pub mod Grown
