@@ -19,14 +19,9 @@ pub fn update_sound(
     ensures { λ r. ⌜ r ≡ frameAfter s (now («gt_ids» .entry)) (now («gt_bboxes» .entry)) (now («pred_ids» .entry)) (now («pred_bboxes» .entry)) threshold ⌝ }
 {
     let total = s.total_distance;
-    let p = pairing::pair(
-        gt_ids.len(),
-        gt_bboxes,
-        pred_ids.len(),
-        pred_bboxes,
-        threshold,
-        total,
-    );
+    let h = gt_ids.len();
+    let w = pred_ids.len();
+    let p = pairing::pair(h, gt_bboxes, w, pred_bboxes, threshold, total);
     if p.number != 0 {
         return Booked {
             number: p.number,
