@@ -1,15 +1,11 @@
 // The port's side of the comparison: a request a line in, an answer a line out (oracle/PROTOCOL.md).
-mod box_requests;
-mod float_requests;
-mod search_requests;
-mod session;
-
 use lines::input;
 use lines::output;
-use session::Reply;
-use session::Session;
+use lines::session;
+use lines::session::Reply;
+use lines::session::Session;
 
-// Each module of requests answers those that it knows.
+// Each crate of requests answers those that it knows.
 fn answer(
     name: &[u8],
     from: &mut [u8; 65536],
@@ -19,13 +15,10 @@ fn answer(
     c: &mut [f64],
     s: Session,
 ) -> Session {
-    if let Reply::Given(t) = float_requests::answer(name, from, to, s) {
+    if let Reply::Given(t) = requests::answer(name, from, to, a, b, c, s) {
         return t;
     }
-    if let Reply::Given(t) = box_requests::answer(name, from, to, a, b, c, s) {
-        return t;
-    }
-    if let Reply::Given(t) = search_requests::answer(name, from, to, a, s) {
+    if let Reply::Given(t) = extended_requests::answer(name, from, to, a, b, s) {
         return t;
     }
     session::unknown(from, to, s)

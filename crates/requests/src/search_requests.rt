@@ -1,13 +1,13 @@
 // The request of module 2: the solver.
 ghost use Prim.Native.Nat.{_≤_};
 ghost use Rattle.lines.specs.Cursors.{Front};
-use crate::session::Reply;
-use crate::session::Session;
-use crate::session::ended;
-use crate::session::refused;
 use lines::input;
 use lines::output;
 use lines::output::Writer;
+use lines::session::Reply;
+use lines::session::Session;
+use lines::session::ended;
+use lines::session::refused;
 use optimize::AssignmentResult;
 
 // A number of a list, with the space before it.

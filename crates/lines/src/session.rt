@@ -1,8 +1,8 @@
 // Where the reading and the writing stand, and what every request does at its end.
-use lines::input;
-use lines::input::Reader;
-use lines::output;
-use lines::output::Writer;
+use crate::input;
+use crate::input::Reader;
+use crate::output;
+use crate::output::Writer;
 
 pub struct Session {
     pub reader: Reader,
@@ -40,6 +40,22 @@ pub fn ended(to: &mut [u8; 65536], reader: Reader, w: Writer) -> Session {
 pub fn refused(to: &mut [u8; 65536], reader: Reader, w: Writer) -> Session {
     let q = output::byte(to, w, b'?');
     ended(to, reader, q)
+}
+
+// A word that is a count, with the space before it.
+pub fn say_count(to: &mut [u8; 65536], w: Writer, n: u64) -> Writer {
+    let q = output::byte(to, w, b' ');
+    output::decimal(to, q, n)
+}
+
+pub fn say_whole(to: &mut [u8; 65536], w: Writer, x: i32) -> Writer {
+    let q = output::byte(to, w, b' ');
+    output::whole(to, q, x)
+}
+
+pub fn say_float(to: &mut [u8; 65536], w: Writer, x: f64) -> Writer {
+    let q = output::byte(to, w, b' ');
+    output::float(to, q, x)
 }
 
 // An answer's first word, where it has a number.

@@ -1,10 +1,10 @@
--- `answers::box_requests::written` meets its contract. Assumes nothing.
+-- `requests::box_requests::written` meets its contract. Assumes nothing.
 use Prim.Native.Nat.{_/_, _≤_}
 use native.Mathlib.Omega.{arith}
 use native.Mathlib.Nat.{mul-le-mul}
 use borrow.Author.Needs.{needs}
-use Rattle.answers.proofs.box_requests.written.Statement.{statement}
-use Rattle.answers.proofs.box_requests.written.Tie as tie
+use Rattle.requests.proofs.box_requests.written.Statement.{statement}
+use Rattle.requests.proofs.box_requests.written.Tie as tie
 
 returns : tie.Need-returns
 returns c = search needs

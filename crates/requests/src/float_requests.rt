@@ -1,10 +1,10 @@
 // The requests on single floats.
-use crate::session::Reply;
-use crate::session::Session;
-use crate::session::ended;
-use crate::session::refused;
 use lines::input;
 use lines::output;
+use lines::session::Reply;
+use lines::session::Session;
+use lines::session::ended;
+use lines::session::refused;
 use numerals::patterns::computed;
 
 // Two floats, and where the line ended.

@@ -2,15 +2,15 @@
 ghost use Prim.Native.Nat.{_≤_};
 ghost use lib.ListN.{length};
 ghost use Rattle.lines.specs.Cursors.{Front};
-use crate::session::Reply;
-use crate::session::Session;
-use crate::session::ended;
-use crate::session::numbered;
-use crate::session::refused;
 use iou::Box;
 use iou::Distance;
 use lines::input;
 use lines::output;
+use lines::session::Reply;
+use lines::session::Session;
+use lines::session::ended;
+use lines::session::numbered;
+use lines::session::refused;
 use numerals::patterns::computed;
 
 struct ReadBox {
