@@ -3,12 +3,14 @@
 import sys
 
 import boxes
+import extended
 import floats
+import lifecycles
 import search
 from words import Fault, Request
 
 # a module of document 01 is a file; its requests are added here
-ANSWERS = {**floats.ANSWERS, **boxes.ANSWERS, **search.ANSWERS}
+ANSWERS = {**floats.ANSWERS, **boxes.ANSWERS, **search.ANSWERS, **lifecycles.ANSWERS, **extended.ANSWERS}
 
 
 def answer(line):
