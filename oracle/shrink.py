@@ -2,7 +2,8 @@
 
 import re
 
-from requests import CALLS, run, value, word
+from made.words import run, value, word
+from requests import CALLS
 
 # up to so many floats are made simpler one by one, more of them an argument at a time
 FEW = 200
