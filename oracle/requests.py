@@ -7,7 +7,7 @@ request; CALLS says how each request is put together, and whether its answer beg
 import random
 from collections import namedtuple
 
-from made import boxes, floats, search
+from made import boxes, floats, lifecycles, search, updates
 
 Call = namedtuple("Call", "arguments numbered")
 
@@ -22,10 +22,16 @@ CALLS = {
     "compute_iou_distance_matrix": Call("boxes boxes run", True),
     "iou_matrix": Call("boxes boxes run", True),
     "linear_sum_assignment": Call("whole whole matrix float", True),
+    "lifecycle_new": Call("int int", False),
+    "update_matched": Call("int int int int int int int int", True),
+    "update_missed": Call("int int int int int int int int", True),
+    "coverage": Call("int int int int int int int", True),
+    # requests with frames: sequences.py knows their parts
+    "extended": Call("", True),
 }
-MODULES = {"floats": floats, "boxes": boxes, "search": search}
+MODULES = {"floats": floats, "boxes": boxes, "search": search, "lifecycles": lifecycles, "updates": updates}
 # how often each is asked where several are
-SHARES = {"floats": 1, "boxes": 9, "search": 5}
+SHARES = {"floats": 1, "boxes": 9, "search": 5, "lifecycles": 1, "updates": 5}
 
 
 def generate(seed, count, names):

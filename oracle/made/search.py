@@ -4,8 +4,8 @@ import math
 import random
 
 from made.boxes import bits, edge, fraction, huge, tiny, whole
-from made.words import (AROUND_ZERO_TEST, EDGE_WORDS, LARGEST, NANS, NORMAL, any_word, any_words, beside, run, spoilt,
-                        value, word)
+from made.words import (AROUND_ZERO_TEST, EDGE_WORDS, LARGEST, LARGEST_COUNT, NANS, NORMAL, any_word, any_words, beside,
+                        run, spoilt, value, word)
 
 
 def _drawn(draw):
@@ -160,9 +160,6 @@ def _matrix_of(rng, costs, low, high, most=None):
     return _solve(rows, columns, entries, most or _threshold(rng, costs, entries))
 
 
-LARGEST_SIDE = 2 ** 64 - 1
-
-
 def limits(rng):
     """Document 01's marked examples, its limits, numbers that apply together, and one matrix of each kind."""
     def words(*costs):
@@ -172,8 +169,8 @@ def limits(rng):
                                        (2, 0, (), 9), (64, 65, (), 9)):
         yield _solve(rows, columns, words(*costs), word(float(most)))
     # every refusal, sides that wrap when multiplied, and what is next to a refusal
-    for rows in (0, 1, 2, 64, 65, 66, 2 ** 32, 2 ** 63, LARGEST_SIDE):
-        for columns in (0, 1, 2, 64, 65, 2 ** 32, 2 ** 63, LARGEST_SIDE):
+    for rows in (0, 1, 2, 64, 65, 66, 2 ** 32, 2 ** 63, LARGEST_COUNT):
+        for columns in (0, 1, 2, 64, 65, 2 ** 32, 2 ** 63, LARGEST_COUNT):
             need = rows * columns
             for length in sorted({0, 1, need % 2 ** 64, need - 1, need + 1}):
                 if 0 <= length <= 130 and (length < 60 or length == need):
@@ -184,7 +181,8 @@ def limits(rng):
         yield _solve(5, 5, entries, word(math.inf))
         yield _solve(4, 6, entries[:24], _threshold(rng, costs, entries))
         for special in SPRINKLES:
-            yield _solve(4, 3, [rng.choice(special) if k % 2 else x for k, x in enumerate(entries[:12])], word(math.inf))
+            mixed = [rng.choice(special) if k % 2 else x for k, x in enumerate(entries[:12])]
+            yield _solve(4, 3, mixed, word(math.inf))
     for special in [[x] for x in (*INFINITIES, word(-0.0), word(5e-324), word(LARGEST), *NANS)]:
         yield _solve(2, 3, special * 6, special[0])
     # each edge as the threshold, beside entries that are edges too
@@ -203,7 +201,8 @@ def one(rng):
     if kind < 0.01:
         return spoilt(rng, one(rng))
     if kind < 0.02:
-        rows, columns = (rng.choice((0, 0, 1, 5, 64, 65, 2 ** 33, LARGEST_SIDE, rng.getrandbits(64))) for _ in range(2))
+        rows, columns = (rng.choice((0, 0, 1, 5, 64, 65, 2 ** 33, LARGEST_COUNT, rng.getrandbits(64)))
+                         for _ in range(2))
         need = rows * columns
         return _solve(rows, columns, any_words(rng, rng.choice((0, need, need + 1)) if need < 65 else 3), any_word(rng))
     costs = rng.choice(COSTS)

@@ -1,4 +1,4 @@
-"""Floats as words, from edge values to any bit pattern, and lines with one thing wrong."""
+"""Floats as words, from edge values to any bit pattern; whole numbers; lines with one thing wrong."""
 
 import math
 import struct
@@ -49,6 +49,32 @@ def run(words):
 
 def any_words(rng, count):
     return [any_word(rng) for _ in range(count)]
+
+
+# whole numbers with a sign have 32 bits
+BOTTOM, TOP = -2 ** 31, 2 ** 31 - 1
+# a side or a used count has 64, without a sign
+LARGEST_COUNT = 2 ** 64 - 1
+
+
+def any_int(rng):
+    """A whole number of any kind: small, at its limits, any."""
+    kind = rng.random()
+    if kind < 0.5:
+        return rng.randint(-3, 9)
+    if kind < 0.8:
+        return rng.choice((BOTTOM, BOTTOM + 1, -1, 0, TOP - 2, TOP - 1, TOP))
+    return rng.randint(BOTTOM, TOP)
+
+
+def any_count(rng):
+    """A counter, seldom a negative one: small, near its limit, any."""
+    kind = rng.random()
+    if kind < 0.7:
+        return rng.randint(0, 9)
+    if kind < 0.95:
+        return TOP - rng.randint(0, 3)
+    return rng.randint(0, TOP) if kind < 0.98 else rng.choice((-1, BOTTOM))
 
 
 def spoilt(rng, line):
