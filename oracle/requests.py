@@ -7,7 +7,7 @@ request; CALLS says how each request is put together, and whether its answer beg
 import random
 from collections import namedtuple
 
-from made import boxes, floats, lifecycles, search, updates
+from made import boxes, floats, lifecycles, metrics, mot, search, updates
 
 Call = namedtuple("Call", "arguments numbered")
 
@@ -28,10 +28,13 @@ CALLS = {
     "coverage": Call("int int int int int int int", True),
     # requests with frames: sequences.py knows their parts
     "extended": Call("", True),
+    "mot": Call("", True),
+    "metrics": Call("", True),
 }
-MODULES = {"floats": floats, "boxes": boxes, "search": search, "lifecycles": lifecycles, "updates": updates}
+MODULES = {"floats": floats, "boxes": boxes, "search": search, "lifecycles": lifecycles, "updates": updates,
+           "mot": mot, "metrics": metrics}
 # how often each is asked where several are
-SHARES = {"floats": 1, "boxes": 9, "search": 5, "lifecycles": 1, "updates": 5}
+SHARES = {"floats": 1, "boxes": 9, "search": 5, "lifecycles": 1, "updates": 5, "mot": 5, "metrics": 5}
 
 
 def generate(seed, count, names):

@@ -15,14 +15,21 @@ class Shape(NamedTuple):
 
 SHAPES = {
     "extended": Shape("used int int int int int int float slots", "ids boxes ids boxes float", 9, 5),
+    "mot": Shape("used events used matches", "int ids ids distances", 3, 14),
+    "metrics": Shape("used events used seen used hypotheses", "int ids ids boxes boxes float", 4, 30),
 }
 # how many words a place of a table has, which may hang on the words themselves
 PLACES = {
     "slots": lambda words: 8 + (words[7] == "1"),
+    "events": lambda words: 5 if words[1] in ("0", "1") else 3,
+    "matches": lambda words: 2,
+    "seen": lambda words: 2 + (words[1] == "1"),
+    "hypotheses": lambda words: 1,
     "ids": lambda words: 1,
     "boxes": lambda words: 1,
+    "distances": lambda words: 1,
 }
-TABLES = "slots",
+TABLES = "slots", "events", "matches", "seen", "hypotheses"
 
 
 class Sequence(NamedTuple):

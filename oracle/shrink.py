@@ -115,7 +115,7 @@ def _less_of_matrix(rows, columns, entries):
 # ---- sequences of frames
 
 # the words of a place that are ids; of an event the last word is the distance
-IDS = {"ids": (0,), "slots": (0, 8)}
+IDS = {"ids": (0,), "slots": (0, 8), "events": (2, 3), "matches": (0, 1), "seen": (0, 2), "hypotheses": (0,)}
 
 
 def _smaller_sequences(sequence):
@@ -155,18 +155,30 @@ def _less_of_table(used, places):
 
 def _less_of_frame(kinds, frame):
     """The frame without some ids and what belongs to them; where the lengths don't fit each other, part by part."""
-    ids = [i for i, kind in enumerate(kinds) if kind == "ids"]
-    boxes = [i for i, kind in enumerate(kinds) if kind == "boxes"]
-    for number, box in zip(ids, boxes):
-        if len(frame[box]) == 4 * len(frame[number]):
-            for kept in _shorter(list(range(len(frame[number]))), 1):
-                yield _with(frame, {number: [frame[number][i] for i in kept],
-                                    box: [x for i in kept for x in frame[box][4 * i:4 * i + 4]]})
-        else:
-            for less in _shorter(frame[number], 1):
-                yield _with(frame, {number: less})
-            for less in _shorter(frame[box], 1):
-                yield _with(frame, {box: less})
+    first, other = (i for i, kind in enumerate(kinds) if kind == "ids")
+    runs = [i for i, kind in enumerate(kinds) if kind in ("boxes", "distances")]
+    rows, columns = list(range(len(frame[first]))), list(range(len(frame[other])))
+
+    def picked(part, places):
+        return [frame[part][i] for i in places]
+    if "distances" in kinds:
+        fits = len(frame[runs[0]]) == len(rows) * len(columns)
+        for kept in _shorter(rows, 1) if fits else ():
+            entries = [i * len(columns) + j for i in kept for j in columns]
+            yield _with(frame, {first: picked(first, kept), runs[0]: picked(runs[0], entries)})
+        for kept in _shorter(columns, 1) if fits else ():
+            entries = [i * len(columns) + j for i in rows for j in kept]
+            yield _with(frame, {other: picked(other, kept), runs[0]: picked(runs[0], entries)})
+    else:
+        fits = all(len(frame[run]) == 4 * len(frame[ids]) for ids, run in zip((first, other), runs))
+        for ids, run, places in zip((first, other), runs, (rows, columns)) if fits else ():
+            for kept in _shorter(places, 1):
+                yield _with(frame, {ids: picked(ids, kept),
+                                    run: picked(run, [4 * i + corner for i in kept for corner in range(4)])})
+    if not fits:
+        for part in (first, other, *runs):
+            for less in _shorter(frame[part], 1):
+                yield _with(frame, {part: less})
 
 
 def _id_words(kinds, parts):

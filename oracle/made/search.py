@@ -107,7 +107,7 @@ SPRINKLES = [NANS, INFINITIES[:1], INFINITIES[1:], INFINITIES + NANS, [word(x) f
              [word(0.0), word(-0.0)], EDGE_WORDS]
 
 
-def _cost_words(rng, costs, rows, columns):
+def cost_words(rng, costs, rows, columns):
     """The matrix as words; three in ten with special values here and there, or over a whole row or column."""
     entries = [word(x) for x in costs(rng, rows, columns)]
     kind = rng.random()
@@ -156,7 +156,7 @@ def _sides(rng, low, high):
 
 def _matrix_of(rng, costs, low, high, most=None):
     rows, columns = _sides(rng, low, high)
-    entries = _cost_words(rng, costs, rows, columns)
+    entries = cost_words(rng, costs, rows, columns)
     return _solve(rows, columns, entries, most or _threshold(rng, costs, entries))
 
 
@@ -209,7 +209,7 @@ def one(rng):
     if kind < 0.03:
         # one entry too few, or more than there are
         rows, columns = _sides(rng, 1, 8)
-        entries = _cost_words(rng, costs, rows, columns)
+        entries = cost_words(rng, costs, rows, columns)
         entries = entries[:-1] if kind < 0.025 else entries + any_words(rng, rng.randint(1, 9))
         return _solve(rows, columns, entries, any_word(rng))
     if kind < 0.93:
