@@ -20,10 +20,10 @@ SHAPES = {
 }
 # how many words a place of a table has, which may hang on the words themselves
 PLACES = {
-    "slots": lambda words: 8 + (words[7] == "1"),
-    "events": lambda words: 5 if words[1] in ("0", "1") else 3,
+    "slots": lambda words: 8 + (int(words[7]) == 1),
+    "events": lambda words: 5 if int(words[1]) in (0, 1) else 3,
     "matches": lambda words: 2,
-    "seen": lambda words: 2 + (words[1] == "1"),
+    "seen": lambda words: 2 + (int(words[1]) == 1),
     "hypotheses": lambda words: 1,
     "ids": lambda words: 1,
     "boxes": lambda words: 1,

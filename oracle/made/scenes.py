@@ -99,7 +99,7 @@ class _Crowd:
 
     def __init__(self, rng, truth, predicted):
         self.rng, self.pools = rng, (truth, predicted)
-        self.grid, self.most = rng.choice((1, 2, 4)), rng.choice((2, 5, 8))
+        self.grid, self.most = rng.choice((1, 2, 4)), rng.choice((2, 5, 8)) if rng.random() < 0.97 else 24
 
     def side(self, pool):
         def box():
