@@ -65,7 +65,7 @@ fn case(kind: &str, frame: &Frame) {
     for (name, sound) in [("extended::update_sound", true), ("extended::update", false)] {
         let port = || port::updates(&frame.ids, &frame.truth, black_box(&frame.predicted), THRESHOLD, TIMES, sound);
         assert_eq!(rust().to_bits(), port().to_bits());
-        row(name, &format!("{side} a side, {kind}, {TIMES} frames"), &mut || drop(black_box(rust())), &mut || drop(black_box(port())));
+        row(name, &format!("{side} a side, {kind}, {TIMES} frames"), &mut || { black_box(rust()); }, &mut || { black_box(port()); });
     }
 }
 
