@@ -52,8 +52,9 @@ def ask_rust(lines, second):
         if name not in CALLS or answer.endswith("?") or answer.startswith(ENDED):
             continue
         if name in SHAPES:
-            said = Answer(taken_apart(line), answer)
-            if said.getters[0] == "0":
+            sequence = taken_apart(line)
+            said = Answer(sequence, answer)
+            if said.getters[0] == "0" and sequence.fits_rust():
                 asked[i] = " ".join(["refused", str(len(said.numbers)), *said.numbers, line])
                 expected[i] = said.in_rust_order()
         elif not CALLS[name].numbered or answer.startswith("0 "):

@@ -22,7 +22,7 @@ SHAPES = {
 PLACES = {
     "slots": lambda words: 8 + (int(words[7]) == 1),
     "events": lambda words: 5 if int(words[1]) in (0, 1) else 3,
-    "matches": lambda words: 2,
+    "matches": lambda words: 2 + (int(words[1]) == 1),
     "seen": lambda words: 2 + (int(words[1]) == 1),
     "hypotheses": lambda words: 1,
     "ids": lambda words: 1,
@@ -45,6 +45,11 @@ class Sequence(NamedTuple):
         for frame in self.frames:
             said += [_part_words(kind, part) for kind, part in zip(shape.frame.split(), frame)]
         return " ".join([self.name, *said])
+
+    def fits_rust(self):
+        """Whether the Rust can hold the state: it has no object with no last match in its map of last matches."""
+        return all(int(self.state[count][0]) <= len(self.state[at]) and all(place[1] == "1" for place in self.state[at])
+                   for kind, count, at in self.tables() if kind == "matches")
 
     def tables(self):
         """The kind of each table, with the places in the state of its used count and of itself."""

@@ -115,7 +115,7 @@ def _less_of_matrix(rows, columns, entries):
 # ---- sequences of frames
 
 # the words of a place that are ids; of an event the last word is the distance
-IDS = {"ids": (0,), "slots": (0, 8), "events": (2, 3), "matches": (0, 1), "seen": (0, 2), "hypotheses": (0,)}
+IDS = {"ids": (0,), "slots": (0, 8), "events": (2, 3), "matches": (0, 2), "seen": (0, 2), "hypotheses": (0,)}
 
 
 def _smaller_sequences(sequence):

@@ -13,7 +13,7 @@ INFINITE = word(math.inf)
 
 def state(events=(), matches=(), log_used=None, used=None):
     """Events are words; matches are pairs of ids."""
-    return "%s %s" % (table(events, log_used), table(["%d %d" % pair for pair in matches], used))
+    return "%s %s" % (table(events, log_used), table(["%d 1 %d" % pair for pair in matches], used))
 
 
 def frame(number, objects, hypotheses, distances):

@@ -5,6 +5,7 @@ from typing import NamedTuple
 import events
 from events import MATCH, SWITCH, Event, append_unpaired, event_words, is_switch, quotient, read_log, summed, taken
 from floats import is_finite
+from extended import partner_words, read_partner
 from frames import MOST_A_SIDE, Table, play
 from words import computed, float_word
 
@@ -77,8 +78,8 @@ def metrics_words(state):
 
 def _read_state(request):
     log, used = read_log(request), request.whole()
-    return State(log, Table(used, request.run_of(lambda: (request.int(), request.int()), MOST_MATCHES), MOST_MATCHES,
-                            (0, 0)))
+    return State(log, Table(used, request.run_of(lambda: (request.int(), read_partner(request)), MOST_MATCHES),
+                            MOST_MATCHES, (0, None)))
 
 
 def _read_frame(request):
@@ -91,7 +92,7 @@ def _frame_words(state):
 
 def _end_words(state):
     return " ".join((metrics_words(state), state.log.words(event_words),
-                     state.last_match.words(lambda pair: "%d %d" % pair)))
+                     state.last_match.words(lambda pair: "%d %s" % (pair[0], partner_words(pair[1])))))
 
 
 def _answer(request):

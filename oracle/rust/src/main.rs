@@ -1,6 +1,7 @@
 //! The Rust's program: a request a line in, the answer of norfair-rs's own code a line out.
 
 mod boxes;
+mod events;
 mod extended;
 mod floats;
 mod search;
@@ -15,7 +16,7 @@ use words::Request;
 type Answer = fn(&mut Request) -> Option<String>;
 
 /// A module of document 01 is a file; its requests are added here.
-const ANSWERS: &[&[(&str, Answer)]] = &[floats::ANSWERS, boxes::ANSWERS, search::ANSWERS, extended::ANSWERS];
+const ANSWERS: &[&[(&str, Answer)]] = &[floats::ANSWERS, boxes::ANSWERS, search::ANSWERS, extended::ANSWERS, events::ANSWERS];
 
 fn main() {
     // a panic is an answer, and a difference: the Rust is asked only what it can answer
