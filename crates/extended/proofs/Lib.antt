@@ -3,3 +3,4 @@ pub mod Ways
 pub mod Updates
 pub mod Raised
 pub mod Grown
+pub mod Kept

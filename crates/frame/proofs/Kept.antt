@@ -1,5 +1,5 @@
--- What a frame keeps, accepted or refused, of a state with no more than 256 slots in use: the table's length, counts that an i32
--- holds, and tracked at most detected. Assumes nothing.
+-- What a frame keeps, accepted or refused: the table's length, no more slots in use than it has, counts that an i32 holds, and
+-- tracked at most detected. Assumes nothing.
 use mathlib.Core.Path.{_≡_, refl, _∙_}
 use mathlib.Core.Bool.{Bool, true, false, cond}
 use mathlib.Core.List.{List, [], _∷_}
@@ -40,6 +40,10 @@ pick-long : (b : Bool) (x y : ExtendedMOTAccumulator) (n : ℕ) → length (x .s
 pick-long true x y n p q = p
 pick-long false x y n p q = q
 
+pick-in : (b : Bool) (x y : ExtendedMOTAccumulator) → x .used ≤ 256 → y .used ≤ 256 → cond b x y .used ≤ 256
+pick-in true x y p q = p
+pick-in false x y p q = q
+
 module _ (s : ExtendedMOTAccumulator) (rows : ℕ → Row) (pairs lefts extra objects : ℕ) (d : Float) where
   pub frame-long : length (frameOf s rows pairs lefts extra objects d .state .slots) ≡ length (s .slots)
   unfolding frameOf closed raisedBy
@@ -50,6 +54,14 @@ module _ (s : ExtendedMOTAccumulator) (rows : ℕ → Row) (pairs lefts extra ob
       pick-long (eqb (trialNo t (roomForAll (t .state) by)) 0) (raisedBy (t .state) by d) s (length (s .slots)) (trial-long rows f s (pairs + lefts)) refl
 
   -- ---- its slots in use
+  pub frame-in : length (s .slots) ≡ 256 → s .used ≤ 256 → frameOf s rows pairs lefts extra objects d .state .used ≤ 256
+  unfolding frameOf closed raisedBy
+  frame-in l u =
+      let f = nextFrame (s .«frame_id») in
+      let t = trialAfter rows f s (pairs + lefts) in
+      let by = sharesOf pairs lefts extra (t .switches) objects in
+      pick-in (eqb (trialNo t (roomForAll (t .state) by)) 0) (raisedBy (t .state) by d) s (trial-good rows f s l u (pairs + lefts) .1) u
+
   pub frame-held : s .used ≤ 256 → Held s → Held (frameOf s rows pairs lefts extra objects d .state)
   frame-held u h =
       record {
