@@ -4,3 +4,4 @@ pub mod Updates
 pub mod Raised
 pub mod Grown
 pub mod Kept
+pub mod Number
