@@ -14,8 +14,8 @@ use Rattle.rows.specs.declared.ExtendedMOTAccumulator.{ExtendedMOTAccumulator}
 use Rattle.frame.specs.declared.Booked.{Booked}
 use Rattle.frame.specs.Frame.{soundState, totalsSound}
 use Rattle.pairing.specs.declared.Pairing.{Pairing}
-use Rattle.extended.specs.Update.{refusedAt, bookedWith, pairingIn, pairedAfter, frameAfter, updateOf}
-use Rattle.extended.proofs.Lying.{Lie, pairing-lies}
+use Rattle.extended.specs.Update.{refusedAt, Lie, bookedWith, pairingIn, pairedAfter, frameAfter, updateOf}
+use Rattle.extended.proofs.Lying.{pairing-lies}
 
 -- a sound state's used count is that of its table
 table-used : (s : ExtendedMOTAccumulator) → soundOf (s .slots) (s .used) ≡ true → s .used ≤ 256
