@@ -5,7 +5,7 @@ use mathlib.Core.List.{List, [], _∷_, _++_}
 use Prim.Native.Nat.{ℕ, zero, suc, _<_, _≤_, _+_, _-_}
 use native.Mathlib.Omega.{arith}
 use native.Mathlib.Numerals.{add-one}
-use borrow.Author.Tests.{lt-ltb, le-ltb}
+use borrow.Author.Tests.{ltb-false, lt-ltb, le-ltb}
 use lib.IntN.{ℤ, pos}
 use lib.Dec.{ltb}
 use lib.ListN.{length, take, drop, set, getD, length-append, length-set, take-append-drop, drop-of-length-le}
@@ -16,7 +16,8 @@ use Rattle.slots.specs.declared.Lookup.{Lookup}
 use Rattle.slots.specs.declared.Lookup.the-variants.{At, Absent}
 use Rattle.slots.specs.Slots.{seekFrom, seekOf}
 use Rattle.slots.proofs.Lookups.{found-below}
-use Rattle.seen.specs.Seen.{seenAt, seenOne, seenAll, placeOf, usedWith, seenOf, runAfter}
+use Rattle.seen.specs.declared.Seen.{Seen}
+use Rattle.seen.specs.Seen.{seenAt, seenOne, seenAll, placeOf, usedWith, over, seenOf, runAfter}
 
 -- ---- a place that is found holds the id
 abbrev Holds : List ℤ → ℕ → ℤ → ℕ → Type 0
@@ -97,10 +98,19 @@ module _ (run : List ℤ) (count : ℕ) (id : ℤ) (h : count ≤ length run) wh
   pub full-run : length run ≤ placeOf (seekOf (take count run) id) count → (count ≡ length run) × (seenOne (take count run) id ≡ run ++ (id ∷ []))
   full-run p = none-left (seekOf (take count run) id) refl p
 
-drop-more : (a b : List ℤ) (n m : ℕ) → n ≤ m → drop n a ≡ drop n b → drop m a ≡ drop m b
+pub drop-more {ℓ} : {A : Type ℓ} (a b : List A) (n m : ℕ) → n ≤ m → drop n a ≡ drop n b → drop m a ≡ drop m b
 drop-more a b n m h e =
     let z : m ≡ n + (m - n) = omega arith in
     rw z (sym (drop-drop (m - n) n a) ∙ (ap (drop (m - n)) e ∙ drop-drop (m - n) n b))
+
+-- a run that holds what it held from n on
+pub over-front {ℓ} : {A : Type ℓ} (l run : List A) (n : ℕ) → n ≤ length l → drop n l ≡ drop n run → l ≡ over (take n l) run
+over-front l run n h e =
+    sym (take-append-drop n l) ∙ (ap (λ (x : List _). take n l ++ x) e ∙ ap (λ (k : ℕ). take n l ++ drop k run) (sym (length-take-le n l h)))
+
+pub grows : (o : Lookup) (count : ℕ) → count ≤ usedWith o count
+grows (At k) count = omega arith
+grows Absent count = omega arith
 
 -- ---- the loop over the ids: what is seen, and what is to come
 abbrev pub Seeing : List ℤ → ℕ → List ℤ → List ℤ → ℕ → ℕ → Type 0
@@ -125,17 +135,13 @@ module _ (run₀ : List ℤ) (used : ℕ) (ids run : List ℤ) (count i : ℕ) (
       let at-is : at ≡ placeOf (seekOf (take count run) id) count = p ∙ ap (λ (x : Lookup). placeOf x count) q in
       let count-is : count' ≡ usedWith (seekOf (take count run) id) count = u ∙ ap (λ (x : Lookup). usedWith x count) q in
       let t = turn run count id (s .0) (rw at-is at l) in
-      let m = grows (seekOf (take count run) id) in
+      let m = grows (seekOf (take count run) id) count in
       rw (at-is, count-is) (
         (let g = t .0 in let z = length-set run (placeOf (seekOf (take count run) id) count) id in omega arith),
         length-set run _ id ∙ s .1,
         t .2 ∙ drop-more run run₀ count _ m (s .2),
         ap (λ (x : List ℤ). seenAll x (drop (i + 1) ids)) (t .1) ∙ next-id id h e,
       )
-    where
-      grows : (x : Lookup) → count ≤ usedWith x count
-      grows (At k) = omega arith
-      grows Absent = omega arith
 
   -- what the run holds in the end, and how many of it are used
   answers : (b : Bool) → take (length run₀) final ≡ take count run → b ≡ ltb (length run₀) (length final)
@@ -145,7 +151,7 @@ module _ (run₀ : List ℤ) (used : ℕ) (ids run : List ℤ) (count i : ℕ) (
       let n = length-take-le count run (s .0) in
       let m : count ≡ length (take (length run₀) final) = sym n ∙ ap length (sym t) in (
         λ j. record { used = m j; full = f j },
-        sym (take-append-drop count run) ∙ ((λ j. sym t j ++ s .2 j) ∙ ap (λ (k : ℕ). take (length run₀) final ++ drop k run₀) m),
+        over-front run run₀ count (s .0) (s .2) ∙ ap (λ (x : List ℤ). over x run₀) (sym t),
       )
 
   pub stops : (id : ℤ) (o : Lookup) (at : ℕ) → i < length ids → getD ids i (pos 0) ≡ id → o ≡ seekOf (take count run) id → at ≡ placeOf o count → length run ≤ at
@@ -173,3 +179,16 @@ module _ (run₀ : List ℤ) (used : ℕ) (ids run : List ℤ) (count i : ℕ) (
       let w = s .1 in
       let k = s .0 in
       answers false (take-all (length run₀) final (omega arith) ∙ sym a) (sym (le-ltb (length run₀) (length final) (omega arith)))
+
+-- ---- what an answer says of the list
+pub says-full : (room : ℕ) (l : List ℤ) (s : Seen) → s ≡ seenOf room l → s .full ≡ true → ltb room (length l) ≡ true
+unfolding seenOf
+says-full room l s e f = sym (ap (λ (x : Seen). x .full) e) ∙ f
+
+pub says-fits : (run l : List ℤ) (s : Seen) → s ≡ seenOf (length run) l → s .full ≡ false
+    → (ltb (length run) (length l) ≡ false) × (s .used ≡ length l) × (runAfter run l ≡ over l run)
+unfolding seenOf runAfter
+says-fits run l s e f =
+    let a : ltb (length run) (length l) ≡ false = sym (ap (λ (x : Seen). x .full) e) ∙ f in
+    let b = take-all (length run) l (ltb-false (length run) (length l) a) in
+    (a, ap (λ (x : Seen). x .used) e ∙ ap length b, ap (λ (x : List ℤ). over x run) b)
