@@ -92,7 +92,7 @@ one (i ∷ l) m f (suc t) (suc t') h h' q = ap suc (one l (set m i true) (f .2) 
 
 -- ---- from no mark on
 -- a list, gathered
-gather-all : (l : List ℕ) → gather (length l) (λ i. true) (λ t. getD l t 0) ≡ l
+pub gather-all : (l : List ℕ) → gather (length l) (λ i. true) (λ t. getD l t 0) ≡ l
 gather-all l = upto (length l) (let z : length l ≤ length l = omega arith in z) ∙ take-length l
   where
     upto : (k : ℕ) → k ≤ length l → gather k (λ i. true) (λ t. getD l t 0) ≡ take k l
