@@ -57,7 +57,7 @@ pub fn seek(ids: &[i32], id: i32) -> Lookup
 }
 
 // Whether a match is a switch: the id was matched before, and to another.
-fn is_switch(last: Partner, to: i32) -> bool
+pub fn is_switch(last: Partner, to: i32) -> bool
     ensures { λ r. ⌜ r ≡ switches last to ⌝ }
 {
     let Partner::Id(before) = last else {

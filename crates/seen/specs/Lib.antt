@@ -1,0 +1,2 @@
+pub mod Seen
+pub mod Holds
