@@ -1,7 +1,7 @@
 // The requests of lifecycles and of the extended accumulator (oracle/PROTOCOL.md).
 mod frames;
-mod lifecycles;
-mod states;
+pub mod lifecycles;
+pub mod states;
 
 use lines::session::Reply;
 use lines::session::Session;

@@ -135,7 +135,7 @@ pub fn read_state(from: &mut [u8; 65536], r: Reader) -> ReadState {
     )
 }
 
-fn say_partner(to: &mut [u8; 65536], w: Writer, p: Partner) -> Writer {
+pub fn say_partner(to: &mut [u8; 65536], w: Writer, p: Partner) -> Writer {
     match p {
         Partner::Nobody => output::text(to, w, b" 0"),
         Partner::Id(id) => say_known(to, w, id),
