@@ -7,16 +7,20 @@ use lib.Dec.{eqb}
 use lib.IntN.{ℤ}
 use lib.ListN.{length}
 use lib.Ieee.{Float}
+use mir.Val.{Val}
+use denote.Laws.{Is}
 use Rattle.matrix.specs.Matrix.{matrixOf}
 use Rattle.matrix.specs.declared.Measure.the-variants.{Away}
 use Rattle.matrix.proofs.Laws.{or-first}
 use Rattle.rows.specs.declared.ExtendedMOTAccumulator.{ExtendedMOTAccumulator}
 use Rattle.rows.specs.Rows.{newState}
+use Rattle.rows.proofs.ExtendedMOTAccumulator as states
 use Rattle.frame.specs.declared.Booked.{Booked}
 use Rattle.frame.specs.Frame.{soundState}
 use Rattle.frame.specs.Held.{Held}
 use Rattle.frame.proofs.Finals as finals
 use Rattle.frame.proofs.Kept.{held-fits}
+use Rattle.frame.proofs.Machine.{held}
 use Rattle.pairing.specs.declared.Pairing.{Pairing}
 use Rattle.pairing.specs.Pairing.{pairingNo, noPairs, pairedOf, framePairs, pairingAt, pairingOf}
 use Rattle.pairing.proofs.Numbers.{or-next}
@@ -81,7 +85,13 @@ module _ (s : ExtendedMOTAccumulator) (gtIds : List ℤ) (gt : List Float) (pred
   pub number-is : updateOf s gtIds gt predIds pred threshold .number ≡ updateNo s gtIds gt predIds pred threshold
   number-is = update-ways s gtIds gt predIds pred threshold Says not-sound not-paired framed
 
--- after any sequence of updates of a new state, with no hypothesis
+-- of any state that machine values stand for
+pub any-number : (s : ExtendedMOTAccumulator) (vs : List Val) → Is states.the-row s vs
+    → (gtIds : List ℤ) (gt : List Float) (predIds : List ℤ) (pred : List Float) (threshold : Float)
+    → updateOf s gtIds gt predIds pred threshold .number ≡ updateNo s gtIds gt predIds pred threshold
+any-number s vs h gtIds gt predIds pred threshold = number-is s gtIds gt predIds pred threshold (held s vs h)
+
+-- after any sequence of updates of a new state
 pub played-number : (fs : List Frame) (f : Frame)
     → let s = playedOf newState fs in updateBy s f .number ≡ updateNo s (f .gt-ids) (f .gt-boxes) (f .pred-ids) (f .pred-boxes) (f .threshold)
 played-number fs f = number-is (playedOf newState fs) (f .gt-ids) (f .gt-boxes) (f .pred-ids) (f .pred-boxes) (f .threshold) (new-played-held fs)

@@ -5,4 +5,5 @@ pub mod Finals
 pub mod Everywhere
 pub mod Soundness
 pub mod Kept
+pub mod Machine
 pub mod Examples
