@@ -1,6 +1,8 @@
 -- Document 01, "Lifecycles and events": the four cases of an event, a log of events, and what a log counts and sums.
 use mathlib.Core.List.{List, [], _∷_}
+use mathlib.Core.Bool.{Bool}
 use Prim.Native.Nat.{ℕ, _+_, _<_}
+use lib.Dec.{leb}
 use lib.IntN.{ℤ, pos}
 use lib.ListN.{length, take, replicate}
 use lib.Ieee.{Float, binary64, add, sub, nan}
@@ -55,6 +57,10 @@ noEvent = record { frame = pos 0; what = Match (pos 0) (pos 0) nan }
 -- the events in use
 abbrev pub logged : Log → List Event
 logged l = take (l .used) (l .events)
+
+-- refusal 1: a used count within the capacity
+abbrev pub logSound : Log → Bool
+logSound l = leb (l .used) 1024
 
 -- ---- counts and sums
 -- what the cases of these events come to in all

@@ -33,7 +33,7 @@ pub place-in : (k n w : ℕ) → k < n * w → (0 < w) × (k / w < n) × (k % w 
 place-in k n w h = let p = some-columns k n w h in (p, div-lt-iff-lt-mul p .1 h, mod-lt k p)
 
 -- ---- one pair
-ids-at : (t : Table) (p : Pair) (o : Lookup) → matchAt t p o .ids ≡ seenAt (t .ids) (p .truth) o
+pub ids-at : (t : Table) (p : Pair) (o : Lookup) → matchAt t p o .ids ≡ seenAt (t .ids) (p .truth) o
 unfolding matchAt seenAt
 ids-at t p (At k) = refl
 ids-at t p Absent = refl

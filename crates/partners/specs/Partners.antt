@@ -1,20 +1,21 @@
 -- Document 01, "Lifecycles and events" and refusal 5: truth ids and their last partners over the pairs of a frame, first without a
 -- bound and then in a table of 256 places.
-use mathlib.Core.Bool.{Bool, true, false, cond}
+use mathlib.Core.Bool.{Bool, true, false, cond, _&&_}
 use mathlib.Core.List.{List, [], _∷_, _++_, map}
-use Prim.Native.Nat.{ℕ, _/_, _%_}
-use lib.Dec.{ltb}
+use Prim.Native.Nat.{ℕ, _/_, _%_, _-_}
+use lib.Dec.{ltb, leb}
 use lib.IntN.{ℤ, pos}
 use lib.ListN.{length, take, getD, set, replicate}
 use Rattle.slots.specs.declared.Partner.{Partner}
 use Rattle.slots.specs.declared.Partner.the-variants.{Nobody, Id}
 use Rattle.slots.specs.declared.Lookup.{Lookup}
 use Rattle.slots.specs.declared.Lookup.the-variants.{At, Absent}
-use Rattle.slots.specs.Slots.{seekOf, switches}
-use Rattle.seen.specs.Seen.{over}
+use Rattle.slots.specs.Slots.{seekOf, switches, distinctOf}
+use Rattle.seen.specs.Seen.{over, seenAll}
 use Rattle.partners.specs.declared.Last.{Last}
 use Rattle.partners.specs.declared.Truths.{Truths}
 use Rattle.partners.specs.declared.Booked.{Booked}
+use Rattle.partners.specs.declared.SeenTruths.{SeenTruths}
 
 abbrev pub nobody : Last
 nobody = record { partner = Nobody }
@@ -97,3 +98,22 @@ bookedWith t u switched =
 -- THE PAIRS OF A FRAME, BOOKED: full where the table would hold more than 256 ids
 unfoldable pub bookedOf : Truths → List Pair → Booked
 bookedOf t ps = bookedWith t (matchAll (tableOf t) ps) (switchesOf (tableOf t) ps)
+
+-- ---- the truth ids of a frame, seen
+-- one that is new has no partner
+abbrev pub seenTable : Table → List ℤ → Table
+seenTable t l = record { ids = l; lasts = t .lasts ++ replicate (length l - length (t .ids)) nobody }
+
+abbrev pub seenWith : Truths → List ℤ → SeenTruths
+seenWith t l =
+    cond (ltb 256 (length l)) (record { full = true; truths = t }) (record { full = false; truths = withTable t (seenTable (tableOf t) l) })
+
+unfoldable pub seenTruths : Truths → List ℤ → SeenTruths
+seenTruths t ids = seenWith t (seenAll (tableOf t .ids) ids)
+
+-- ---- refusal 1: a used count within the capacity, and no id twice in the used places
+unfoldable pub idsSound : List ℤ → ℕ → Bool
+idsSound ids used = leb used 256 && distinctOf (take used ids)
+
+abbrev pub truthsSound : Truths → Bool
+truthsSound t = idsSound (t .ids) (t .used)

@@ -1,0 +1,61 @@
+-- What the booked pairs mean: the table's ids are those seen, in order; a pair is a switch exactly where the last partner of its truth
+-- id, as the pairs before it left it, is another; and a sound table stays sound. Assumes nothing.
+use mathlib.Core.Path.{_≡_, refl, ap, _∙_}
+use mathlib.Core.Bool.{true, false}
+use mathlib.Core.List.{List, [], _∷_, map}
+use Prim.Native.Nat.{ℕ, zero, suc, _<_}
+use native.Mathlib.Nat.{not-suc-le-zero, le-of-suc-le-suc}
+use native.Mathlib.Omega.{arith}
+use lib.IntN.{ℤ, pos}
+use lib.ListN.{length, take, getD, length-append, length-set}
+use Rattle.slots.specs.declared.Lookup.{Lookup}
+use Rattle.slots.specs.declared.Lookup.the-variants.{At, Absent}
+use Rattle.slots.specs.Slots.{seekOf, switches, distinctOf}
+use Rattle.seen.specs.Seen.{seenAll}
+use Rattle.seen.proofs.Distinct.{all-once}
+use Rattle.partners.specs.Partners.{lastIs, Pair, Table, lastOf, matchAt, matchOne, matchAll, switchesOf}
+use Rattle.partners.proofs.Turns.{ids-at}
+
+abbrev truthOf : Pair → ℤ
+truthOf p = p .truth
+
+-- what stands past the end of a list of pairs; nothing turns on it
+abbrev pub noPair : Pair
+noPair = record { truth = pos 0; hypothesis = pos 0 }
+
+-- THE IDS ARE THOSE SEEN: none twice, and no more than the frame's matched ones are new
+pub ids-are : (t : Table) (ps : List Pair) → matchAll t ps .ids ≡ seenAll (t .ids) (map truthOf ps)
+unfolding matchAll seenAll
+ids-are t [] = refl
+ids-are t (p ∷ ps) =
+    ids-are (matchOne t p) ps ∙ ap (λ (l : List ℤ). seenAll l (map truthOf ps)) (ids-at t p (seekOf (t .ids) (p .truth)))
+
+pub ids-once : (t : Table) (ps : List Pair) → distinctOf (t .ids) ≡ true → distinctOf (matchAll t ps .ids) ≡ true
+ids-once t ps d = ap distinctOf (ids-are t ps) ∙ all-once (t .ids) (map truthOf ps) d
+
+-- as many partners as ids
+one-aligned : (t : Table) (p : Pair) (o : Lookup) → length (t .lasts) ≡ length (t .ids) → length (matchAt t p o .lasts) ≡ length (matchAt t p o .ids)
+unfolding matchAt
+one-aligned t p (At k) e = length-set (t .lasts) k (lastIs (p .hypothesis)) ∙ e
+one-aligned t p Absent e =
+    let a = length-append (t .lasts) (lastIs (p .hypothesis) ∷ []) in
+    let b = length-append (t .ids) (p .truth ∷ []) in
+    omega arith
+
+pub aligned : (t : Table) (ps : List Pair) → length (t .lasts) ≡ length (t .ids) → length (matchAll t ps .lasts) ≡ length (matchAll t ps .ids)
+unfolding matchAll
+aligned t [] e = e
+aligned t (p ∷ ps) e = aligned (matchOne t p) ps (one-aligned t p (seekOf (t .ids) (p .truth)) e)
+
+-- A SWITCH IS NAMED BY THE LAST PARTNER
+pub switch-at : (t : Table) (ps : List Pair) (i : ℕ) → i < length ps
+    → let p = getD ps i noPair in getD (switchesOf t ps) i false ≡ switches (lastOf (matchAll t (take i ps)) (p .truth)) (p .hypothesis)
+unfolding switchesOf matchAll
+switch-at t [] i h = absurd (not-suc-le-zero h)
+switch-at t (p ∷ ps) zero h = refl
+switch-at t (p ∷ ps) (suc i) h = switch-at (matchOne t p) ps i (le-of-suc-le-suc h)
+
+pub flags-long : (t : Table) (ps : List Pair) → length (switchesOf t ps) ≡ length ps
+unfolding switchesOf
+flags-long t [] = refl
+flags-long t (p ∷ ps) = ap suc (flags-long (matchOne t p) ps)
