@@ -153,7 +153,7 @@ module _ {A : Type 0} (z : A) where
   set-seam [] x r = refl
   set-seam (y ∷ l) x r = ap (λ (k : List A). y ∷ k) (set-seam l x r)
 
-  fill-one : (l : List A) (x : A) → length l < 64 → set (filled z l) (length l) x ≡ filled z (l ++ (x ∷ []))
+  pub fill-one : (l : List A) (x : A) → length l < 64 → set (filled z l) (length l) x ≡ filled z (l ++ (x ∷ []))
   fill-one l x h =
       ap (λ (r : ℕ). set (l ++ replicate r z) (length l) x) (let e : 64 - length l ≡ suc (63 - length l) = omega arith in e) ∙ set-seam l x (63 - length l)
       ∙ ap (λ (r : ℕ). (l ++ (x ∷ [])) ++ replicate r z) (let e : 63 - length l ≡ 64 - length (l ++ (x ∷ [])) = omega (arith, length-append l (x ∷ [])) in e)

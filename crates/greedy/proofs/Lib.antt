@@ -1,0 +1,3 @@
+pub mod Marks
+pub mod Taking
+pub mod Pairings

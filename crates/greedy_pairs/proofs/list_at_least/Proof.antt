@@ -1,0 +1,80 @@
+-- `greedy_pairs::list_at_least` meets its contract. The front of order lists the places below i that pass. Assumes nothing.
+use borrow.Author.Needs.{needs}
+use mathlib.Core.Path.{_≡_, sym, _∙_}
+use mathlib.Core.Logic.{⊎-elim}
+use Prim.Native.Nat.{_-_, _<_, _≤_}
+use native.Mathlib.Omega.{arith}
+use lib.ListN.{length}
+use lib.Ieee.{le}
+use Rattle.greedy_pairs.proofs.Listing as law
+use Rattle.greedy_pairs.proofs.list_at_least.Statement.{statement}
+use Rattle.greedy_pairs.proofs.list_at_least.Tie as tie
+
+abbrev Inv-loop : tie.InvT-loop
+Inv-loop shares threshold order₀ used₀ i₀ order used i = law.Listing (le threshold) shares order used i
+
+abbrev μ-loop : tie.MeasureT-loop
+μ-loop shares threshold order₀ used₀ i₀ order used i = length shares - i
+
+loop-holds : tie.Need-loop-holds Inv-loop μ-loop
+loop-holds c = law.starts (le _) _ _ (c .pre .1)
+
+mul-if1 : tie.Need-mul-if1 Inv-loop μ-loop
+mul-if1 c = search needs
+
+shared-slice-read-if1 : tie.Need-shared-slice-read-if1 Inv-loop μ-loop
+shared-slice-read-if1 c = search needs
+
+cast-order : tie.Need-cast-order Inv-loop μ-loop
+cast-order c = search needs
+
+mul-order : tie.Need-mul-order Inv-loop μ-loop
+mul-order c = search needs
+
+element-write-order : tie.Need-element-write-order Inv-loop μ-loop
+element-write-order c = search needs
+
+add-used : tie.Need-add-used Inv-loop μ-loop
+add-used c = search needs
+
+add-i : tie.Need-add-i Inv-loop μ-loop
+add-i c = search needs
+
+loop-less : tie.Need-loop-less Inv-loop μ-loop
+loop-less c = search needs
+
+loop-again : tie.Need-loop-again Inv-loop μ-loop
+loop-again c =
+    let i = c .before .before in
+    let l = i .before .loop in
+    let s = i .before .before in
+    let d = s .args .shares .now in
+    ⊎-elim
+    (λ v. law.lists (le (s .args .threshold)) d (l .order) (l .used) (l .i) (l .inv) (c .if1 .order) (c .if1 .used) (i .loop-test .taken) (s .pre .0) (v .0 .taken) (v .1) (v .2))
+    (λ v. law.passes-by (le (s .args .threshold)) d (l .order) (l .used) (l .i) (l .inv) (c .if1 .order) (c .if1 .used) (i .loop-test .taken) (v .0 .left) (v .1) (v .2))
+    (c .if1 .came)
+
+returns : tie.Need-returns Inv-loop μ-loop
+returns c =
+    let l = c .before .loop in
+    let s = c .before .before in
+    let h = l .inv .within in
+    law.done (le (s .args .threshold)) (s .args .shares .now) (l .order) (l .used) (l .i) (l .inv) (omega arith)
+
+pub list-at-least-spec : {M : Type 1} → statement M
+list-at-least-spec =
+    tie.close
+    (tie.spec
+    Inv-loop
+    μ-loop
+    loop-holds
+    mul-if1
+    shared-slice-read-if1
+    cast-order
+    mul-order
+    element-write-order
+    add-used
+    add-i
+    loop-less
+    loop-again
+    returns)

@@ -1,0 +1,3 @@
+pub mod Order
+pub mod Sort
+pub mod Steps
