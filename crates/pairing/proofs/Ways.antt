@@ -1,21 +1,21 @@
 -- The pairing of a frame, by the four ways that the code goes. Assumes nothing.
-use mathlib.Core.Path.{_≡_, refl, sym, ap, _∙_, subst}
-use mathlib.Core.Bool.{cond}
-use mathlib.Core.List.{List, _++_}
-use Prim.Native.Nat.{ℕ, zero, suc, _*_, _/_, _<_, _≤_}
+use mathlib.Core.Path.{_≡_, refl, sym, ap, _∙_}
+use mathlib.Core.List.{List}
+use Prim.Native.Nat.{ℕ, zero, suc, _*_, _/_, _≤_}
 use native.Mathlib.Omega.{arith}
 use borrow.Author.Tests.{eq-eqb, ne-eqb}
-use lib.Dec.{eqb}
-use lib.ListN.{length, take, drop, length-append, length-drop}
+use lib.ListN.{length, take}
 use lib.Seq.{take-at}
 use lib.Ieee.{Float}
 use Rattle.floats.specs.Float.{zero64}
-use Rattle.matrix.specs.Matrix.{matrixOf, overwrite, matrixAfter, distanceMatrixNo, anyReadBad}
+use Rattle.matrix.specs.Matrix.{matrixOf, overwrite, matrixAfter, distanceMatrixNo}
 use Rattle.matrix.specs.declared.Measure.the-variants.{Away}
 use Rattle.matrix.proofs.Laws.{length-matrix, length-overwrite, or-first}
 use Rattle.pairing.specs.declared.Pairing.{Pairing}
-use Rattle.pairing.specs.Pairing.{shapeNo, pairingNo, noPairs, pairedOf, framePairs, pairingAt, pairingOf}
-use Rattle.pairing.proofs.Numbers.{Side, sides, boxes-no, room, or-next}
+use Rattle.shape.specs.Shape.{shapeNo}
+use Rattle.pairing.specs.Pairing.{pairingNo, noPairs, pairedOf, framePairs, pairingAt, pairingOf}
+use Rattle.shape.proofs.Sides.{Side, sides, room, or-next}
+use Rattle.pairing.proofs.Numbers.{boxes-no}
 
 refused : (n : ℕ) (p : Pairing) → (n ≡ 0 → ⊥) → noPairs n 0 zero64 ≡ pairingAt n p
 refused zero p x = absurd (x refl)
