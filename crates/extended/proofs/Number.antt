@@ -23,7 +23,7 @@ use Rattle.frame.proofs.Kept.{held-fits}
 use Rattle.frame.proofs.Machine.{held}
 use Rattle.pairing.specs.declared.Pairing.{Pairing}
 use Rattle.pairing.specs.Pairing.{pairingNo, noPairs, pairedOf, framePairs, pairingAt, pairingOf}
-use Rattle.pairing.proofs.Numbers.{or-next}
+use Rattle.shape.proofs.Sides.{or-next}
 use Rattle.extended.specs.Update.{rowsIn, pairingIn, bookedWith, updateOf}
 use Rattle.extended.specs.Number.{finalNoIn, updateNo}
 use Rattle.extended.specs.Play.{Frame, updateBy, playedOf}
