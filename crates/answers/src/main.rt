@@ -5,6 +5,24 @@ use lines::session;
 use lines::session::Reply;
 use lines::session::Session;
 
+// The accumulators' requests; where none has the name, the line says none.
+fn answer_frames(
+    name: &[u8],
+    from: &mut [u8; 65536],
+    to: &mut [u8; 65536],
+    a: &mut [f64],
+    b: &mut [f64],
+    s: Session,
+) -> Session {
+    if let Reply::Given(t) = extended_requests::answer(name, from, to, a, b, s) {
+        return t;
+    }
+    if let Reply::Given(t) = mot_requests::answer(name, from, to, a, s) {
+        return t;
+    }
+    session::unknown(from, to, s)
+}
+
 // Each crate of requests answers those that it knows.
 fn answer(
     name: &[u8],
@@ -18,10 +36,7 @@ fn answer(
     if let Reply::Given(t) = requests::answer(name, from, to, a, b, c, s) {
         return t;
     }
-    if let Reply::Given(t) = extended_requests::answer(name, from, to, a, b, s) {
-        return t;
-    }
-    session::unknown(from, to, s)
+    answer_frames(name, from, to, a, b, s)
 }
 
 fn answer_line(
