@@ -1,13 +1,15 @@
 //! The port beside the Rust, in one process: the same inputs, both built for release, five rounds.
-//! Words name the parts to time (boxes, search, extended); without one all are.
+//! Words name the parts to time (boxes, search, extended, mot); without one all are.
 
 mod boxes;
 mod extended;
+mod mot;
 mod port;
 mod rounds;
 mod search;
 
-const PARTS: &[(&str, fn())] = &[("boxes", boxes::bench), ("search", search::bench), ("extended", extended::bench)];
+const PARTS: &[(&str, fn())] =
+    &[("boxes", boxes::bench), ("search", search::bench), ("extended", extended::bench), ("mot", mot::bench)];
 
 fn main() {
     let asked: Vec<String> = std::env::args().skip(1).collect();

@@ -1,4 +1,6 @@
 // Updates for bench/run, made one after the other on this side of the border, where the state stays.
+mod mot;
+
 use rows::ExtendedMOTAccumulator;
 
 // The public update by one frame so many times, from a new state; the total distance.
