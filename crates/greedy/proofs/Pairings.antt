@@ -3,7 +3,7 @@ use mathlib.Core.Path.{_≡_, refl, sym, ap, _∙_, subst}
 use mathlib.Core.List.{List, _++_, map}
 use Prim.Native.Nat.{ℕ, suc, _+_, _*_, _<_, _≤_, _/_, _%_, _-_}
 use native.Mathlib.Omega.{arith}
-use lib.ListN.{length, getD, take, replicate, length-map, List·getD-append}
+use lib.ListN.{length, getD, take, replicate, length-append, length-map, length-replicate, List·getD-append}
 use lib.Seq.{take-append-seam}
 use Rattle.square.specs.Index.{Once}
 use Rattle.sorting.specs.Order.{Each}
@@ -27,6 +27,7 @@ module _ (n w : ℕ) (l : List ℕ) (n64 : n ≤ 64) (w64 : w ≤ 64) (inside : 
       let d = length-map (takenOf w l) (λ k. k % w) in
       record {
         few = omega arith;
+        places = omega (arith, length-append (takenOf w l) (replicate (64 - length (takenOf w l)) 0), length-replicate {A = ℕ} (64 - length (takenOf w l)) 0);
         inside = λ i h. subst (λ (k : ℕ). k < n * w) (sym (List·getD-append (takenOf w l) (replicate (64 - length (takenOf w l)) 0) 0 i h))
             (each-at (λ k. k < n * w) (takenOf w l) i (taken-inside n w l n64 w64 inside) h);
         rows = omega arith;

@@ -51,6 +51,7 @@ leftOf n m = gather n (λ i. not (on m i)) (λ i. i)
 -- what a pairing of n rows and w columns obeys: its pairs are places of the matrix; with those left they are all rows and all columns
 pub record Fitting (n w : ℕ) (p : Pairing) : Type 0 where
   pub few : p .used ≤ 64
+  pub places : length (p .pairs) ≡ 64
   pub inside : (i : ℕ) → i < p .used → getD (p .pairs) i 0 < n * w
   pub rows : p .used + length (leftOf n (p .rows)) ≡ n
   pub cols : p .used + length (leftOf w (p .cols)) ≡ w
