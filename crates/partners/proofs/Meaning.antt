@@ -1,11 +1,13 @@
 -- What the booked pairs mean: the table's ids are those seen, in order; a pair is a switch exactly where the last partner of its truth
 -- id, as the pairs before it left it, is another; and a sound table stays sound. Assumes nothing.
-use mathlib.Core.Path.{_≡_, refl, ap, _∙_}
-use mathlib.Core.Bool.{true, false}
+use mathlib.Core.Path.{_≡_, refl, sym, ap, _∙_}
+use mathlib.Core.Bool.{Bool, true, false, cond, true≢false}
 use mathlib.Core.List.{List, [], _∷_, map}
-use Prim.Native.Nat.{ℕ, zero, suc, _<_}
+use Prim.Native.Nat.{ℕ, zero, suc, _<_, _≤_}
 use native.Mathlib.Nat.{not-suc-le-zero, le-of-suc-le-suc}
 use native.Mathlib.Omega.{arith}
+use borrow.Author.Tests.{ltb-false}
+use lib.Dec.{ltb}
 use lib.IntN.{ℤ, pos}
 use lib.ListN.{length, take, getD, length-append, length-set}
 use Rattle.slots.specs.declared.Lookup.{Lookup}
@@ -13,7 +15,9 @@ use Rattle.slots.specs.declared.Lookup.the-variants.{At, Absent}
 use Rattle.slots.specs.Slots.{seekOf, switches, distinctOf}
 use Rattle.seen.specs.Seen.{seenAll}
 use Rattle.seen.proofs.Distinct.{all-once}
-use Rattle.partners.specs.Partners.{lastIs, Pair, Table, lastOf, matchAt, matchOne, matchAll, switchesOf}
+use Rattle.partners.specs.declared.Truths.{Truths}
+use Rattle.partners.specs.declared.SeenTruths.{SeenTruths}
+use Rattle.partners.specs.Partners.{lastIs, Pair, Table, lastOf, matchAt, matchOne, matchAll, switchesOf, tableOf, withTable, seenTable, seenTruths}
 use Rattle.partners.proofs.Turns.{ids-at}
 
 abbrev truthOf : Pair → ℤ
@@ -59,3 +63,14 @@ pub flags-long : (t : Table) (ps : List Pair) → length (switchesOf t ps) ≡ l
 unfolding switchesOf
 flags-long t [] = refl
 flags-long t (p ∷ ps) = ap suc (flags-long (matchOne t p) ps)
+
+-- ---- the truth ids of a frame, seen
+few-when : (b : Bool) (x y : SeenTruths) (n : ℕ) → n ≡ y .truths .used → x .full ≡ true → ltb 256 n ≡ b → cond b x y .full ≡ false → cond b x y .truths .used ≤ 256
+few-when true x y n u e q f = absurd (true≢false (sym e ∙ f))
+few-when false x y n u e q f = rw (← u) (ltb-false 256 n q)
+
+pub seen-few : (t : Truths) (ids : List ℤ) → seenTruths t ids .full ≡ false → seenTruths t ids .truths .used ≤ 256
+unfolding seenTruths
+seen-few t ids f =
+    let l = seenAll (tableOf t .ids) ids in
+    few-when (ltb 256 (length l)) (record { full = true; truths = t }) (record { full = false; truths = withTable t (seenTable (tableOf t) l) }) (length l) refl refl refl f

@@ -6,21 +6,22 @@ use native.Mathlib.Omega.{arith}
 use lib.ListN.{length}
 use mir.Facts.{toZ-ofZ}
 use Rattle.booking.specs.Booking.{eventsOf, logAfter}
+use Rattle.greedy.proofs.Pairings.{pairs-fit, pairs-long, pairs-inside}
 use Rattle.motmetrics_update.proofs.Steps as law
 use Rattle.motmetrics_update.proofs.book.Statement.{statement}
 use Rattle.motmetrics_update.proofs.book.Tie as tie
 
 array-share-prefix-pairs : tie.Need-array-share-prefix-pairs
-array-share-prefix-pairs c = let s = c .before .before .before in law.pairs-fit _ _ (s .args .p) (s .pre .1 .1)
+array-share-prefix-pairs c = let s = c .before .before .before in pairs-fit _ _ (s .args .p) (s .pre .1 .1)
 
 slice-aggregate-book-matches : tie.Need-slice-aggregate-book-matches
-slice-aggregate-book-matches c = let s = c .before .before .before .before in law.pairs-long _ _ (s .args .p) (s .pre .1 .1)
+slice-aggregate-book-matches c = let s = c .before .before .before .before in pairs-long _ _ (s .args .p) (s .pre .1 .1)
 
 book-matches-requires : tie.Need-book-matches-requires
 book-matches-requires c κs =
     let s = c .before .before .before .before in
     let f = s .pre .1 .1 in
-    (s .pre .0 .1, rw (← law.pairs-long _ _ (s .args .p) f) (f .few), law.pairs-inside _ _ (s .args .p) f)
+    (s .pre .0 .1, rw (← pairs-long _ _ (s .args .p) f) (f .few), pairs-inside _ _ (s .args .p) f)
 
 returns : tie.Need-returns
 returns c =
