@@ -184,8 +184,10 @@ mot 1 1 2147483648 2 7 0 0 0
 mot 0 1025 0 0 0
 mot 0 0 0 257 0
 mot 0 0 1 1 7 0
+mot 0 0 1 1 7 1 1 0
 mot 0 0 1 1 7 1 0
-mot 0 0 1 1 7 2147483648 0"""
+mot 0 0 1 1 7 2 0
+mot 0 0 1 1 7 1 2147483648 0"""
 
 
 def _faults():
@@ -210,10 +212,10 @@ def _a_state(rng, truth, predicted):
     known = rng.sample(truth, rng.randint(0, len(truth)))
     if kind < 0.53:
         known = filled(rng, known, MOST_MATCHES)
-    pairs = ["%d %d" % (number, rng.choice(predicted)) for number in known]
+    pairs = ["%d 1 %d" % (number, rng.choice(predicted)) for number in known]
     if rng.random() < 0.2 and len(pairs) < MOST_MATCHES:
         # a place that is not in use
-        return "%s %s" % (log, table([*pairs, "%d %d" % (any_int(rng), any_int(rng))], len(pairs)))
+        return "%s %s" % (log, table([*pairs, "%d 1 %d" % (any_int(rng), any_int(rng))], len(pairs)))
     if 0.53 <= kind < 0.56:
         fault = rng.randrange(3)
         if fault == 0:

@@ -20,6 +20,9 @@ fn answer_frames(
     if let Reply::Given(t) = mot_requests::answer(name, from, to, a, s) {
         return t;
     }
+    if let Reply::Given(t) = metric_requests::answer(name, from, to, a, b, s) {
+        return t;
+    }
     session::unknown(from, to, s)
 }
 
