@@ -24,7 +24,7 @@ use Rattle.greedy_pairs.specs.Pairs.{byShare}
 use Rattle.booking.specs.Booking.{eventsOf, logAfter}
 use Rattle.metrics.specs.State.{newState, soundState}
 use Rattle.metrics_update.specs.declared.Updated.{Updated}
-use Rattle.metrics_update.specs.Update.{bookOf, pairedAfter, frameAfter, updateOf}
+use Rattle.metrics_update.specs.Update.{bookOf, frameAfter, updateOf}
 
 abbrev half : Float
 half = fin false 1 (negsuc 0)
