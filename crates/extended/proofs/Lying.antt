@@ -1,13 +1,12 @@
 -- Where the lists of a frame's pairing lie: in the two runs of ids. Assumes nothing.
 use mathlib.Core.Path.{_≡_, refl, sym, ap, _∙_, subst}
-use mathlib.Core.Bool.{cond}
 use mathlib.Core.Logic.{⊎-elim}
 use mathlib.Core.List.{List}
 use Prim.Native.Nat.{ℕ, zero, suc, _*_, _/_, _<_, _≤_}
 use native.Mathlib.Nat.{not-suc-le-zero}
 use native.Mathlib.Omega.{arith}
 use borrow.Author.Tests.{eq-eqb, ne-eqb}
-use lib.ListN.{length, getD}
+use lib.ListN.{length}
 use lib.Ieee.{Float}
 use Rattle.square.proofs.Index.{eq-or-not}
 use Rattle.matrix.specs.Matrix.{matrixOf}
@@ -17,8 +16,9 @@ use Rattle.solver.specs.Solution.{solutionOf}
 use Rattle.solver.proofs.Lists.{Placed, solution-placed}
 use Rattle.rows.specs.Rows.{Lies}
 use Rattle.pairing.specs.declared.Pairing.{Pairing}
-use Rattle.pairing.specs.Pairing.{shapeNo, pairingNo, noPairs, pairedOf, framePairs, pairingAt, pairingOf}
-use Rattle.pairing.proofs.Numbers.{Side, sides}
+use Rattle.shape.specs.Shape.{shapeNo}
+use Rattle.pairing.specs.Pairing.{pairingNo, noPairs, pairedOf, framePairs, pairingAt, pairingOf}
+use Rattle.shape.proofs.Sides.{sides}
 use Rattle.pairing.proofs.Placed.{taken}
 use Rattle.pairing.proofs.Ways.{accept}
 

@@ -4,7 +4,8 @@ use mathlib.Core.List.{List, _++_, map}
 use Prim.Native.Nat.{ℕ, suc, _+_, _*_, _<_, _≤_, _/_, _%_, _-_}
 use native.Mathlib.Omega.{arith}
 use lib.ListN.{length, getD, take, replicate, length-append, length-map, length-replicate, List·getD-append}
-use lib.Seq.{take-append-seam}
+use lib.Seq.{take-append-seam, length-take-le, getD-take}
+use Rattle.greedy.specs.declared.Pairing.{Pairing}
 use Rattle.square.specs.Index.{Once}
 use Rattle.sorting.specs.Order.{Each}
 use Rattle.sorting.proofs.Permutes.{each-at}
@@ -42,3 +43,17 @@ module _ (n w : ℕ) (l : List ℕ) (n64 : n ≤ 64) (w64 : w ≤ 64) (inside : 
   pub cols-once : Once w (colsOf w (takenOf w l) ++ leftOf w (pairingOf w l .cols))
   unfolding pairingOf
   cols-once = each-once w (colsOf w (takenOf w l)) (cols-fresh n w l n64 w64 inside) (cols-inside n w l n64 w64 inside)
+
+-- ---- the pairs of a pairing that fits, lent as a run
+module _ (n w : ℕ) (p : Pairing) (f : Fitting n w p) where
+  pub pairs-fit : p .used ≤ length (p .pairs)
+  pairs-fit = let a = f .few in let b = f .places in omega arith
+
+  pub pairs-long : p .used ≡ length (take (p .used) (p .pairs))
+  pairs-long = sym (length-take-le (p .used) (p .pairs) pairs-fit)
+
+  pub pairs-inside : (i : ℕ) → i < length (take (p .used) (p .pairs)) → getD (take (p .used) (p .pairs)) i 0 < n * w
+  pairs-inside i h =
+      let a = pairs-long in
+      let k : i < p .used = omega arith in
+      rw (getD-take (p .used) (p .pairs) i 0 k) (f .inside i k)

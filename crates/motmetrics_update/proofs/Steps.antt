@@ -1,5 +1,5 @@
 -- The steps of the update, by the number that they answer. Assumes nothing.
-use mathlib.Core.Path.{_≡_, refl, sym, ap, _∙_}
+use mathlib.Core.Path.{_≡_, refl, sym, _∙_}
 use mathlib.Core.Bool.{Bool, true, false, cond}
 use mathlib.Core.List.{List}
 use Prim.Native.Nat.{ℕ, _+_, _*_, _-_, _<_, _≤_}
@@ -7,8 +7,7 @@ use native.Mathlib.Omega.{arith}
 use borrow.Author.Tests.{lt-ltb, le-ltb, ltb-false, eq-eqb, ne-eqb, eqb-true}
 use lib.Dec.{ltb, eqb}
 use lib.IntN.{ℤ}
-use lib.ListN.{length, getD, take}
-use lib.Seq.{length-take-le, getD-take}
+use lib.ListN.{length}
 use lib.Ieee.{Float}
 use Rattle.events.specs.declared.Log.{Log}
 use Rattle.partners.specs.declared.Booked.{Booked}
@@ -41,20 +40,6 @@ module _ (rows columns size : ℕ) where
   pub fitting-size : rows ≤ 64 → columns ≤ 64 → size ≡ rows * columns → 0 ≡ shapeNo rows columns size
   unfolding shapeNo
   fitting-size h g e = rw (le-ltb 64 rows h, le-ltb 64 columns g, eq-eqb size (rows * columns) e) refl
-
--- ---- the pairs of a pairing
-module _ (n w : ℕ) (p : Pairing) (f : Fitting n w p) where
-  pub pairs-fit : p .used ≤ length (p .pairs)
-  pairs-fit = let a = f .few in let b = f .places in omega arith
-
-  pub pairs-long : p .used ≡ length (take (p .used) (p .pairs))
-  pairs-long = sym (length-take-le (p .used) (p .pairs) pairs-fit)
-
-  pub pairs-inside : (i : ℕ) → i < length (take (p .used) (p .pairs)) → getD (take (p .used) (p .pairs)) i 0 < n * w
-  pairs-inside i h =
-      let a = pairs-long in
-      let k : i < p .used = omega arith in
-      rw (getD-take (p .used) (p .pairs) i 0 k) (f .inside i k)
 
 -- ---- the booking
 module _ (s : MOTAccumulator) (frame : ℤ) (objects hypotheses : List ℤ) (distances : List Float) (p : Pairing) (f : Fitting (length objects) (length hypotheses) p)

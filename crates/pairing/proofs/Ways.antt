@@ -1,21 +1,20 @@
 -- The pairing of a frame, by the four ways that the code goes. Assumes nothing.
-use mathlib.Core.Path.{_≡_, refl, sym, ap, _∙_, subst}
-use mathlib.Core.Bool.{cond}
-use mathlib.Core.List.{List, _++_}
-use Prim.Native.Nat.{ℕ, zero, suc, _*_, _/_, _<_, _≤_}
-use native.Mathlib.Omega.{arith}
+use mathlib.Core.Path.{_≡_, refl, sym, ap, _∙_}
+use mathlib.Core.List.{List}
+use Prim.Native.Nat.{ℕ, zero, suc, _*_, _≤_}
 use borrow.Author.Tests.{eq-eqb, ne-eqb}
-use lib.Dec.{eqb}
-use lib.ListN.{length, take, drop, length-append, length-drop}
-use lib.Seq.{take-at}
+use lib.ListN.{length, take}
 use lib.Ieee.{Float}
 use Rattle.floats.specs.Float.{zero64}
-use Rattle.matrix.specs.Matrix.{matrixOf, overwrite, matrixAfter, distanceMatrixNo, anyReadBad}
+use Rattle.matrix.specs.Matrix.{matrixOf, matrixAfter, distanceMatrixNo}
 use Rattle.matrix.specs.declared.Measure.the-variants.{Away}
-use Rattle.matrix.proofs.Laws.{length-matrix, length-overwrite, or-first}
+use Rattle.matrix.proofs.Laws.{or-first}
 use Rattle.pairing.specs.declared.Pairing.{Pairing}
-use Rattle.pairing.specs.Pairing.{shapeNo, pairingNo, noPairs, pairedOf, framePairs, pairingAt, pairingOf}
-use Rattle.pairing.proofs.Numbers.{Side, sides, boxes-no, room, or-next}
+use Rattle.shape.specs.Shape.{shapeNo}
+use Rattle.pairing.specs.Pairing.{pairingNo, noPairs, pairedOf, framePairs, pairingAt, pairingOf}
+use Rattle.shape.proofs.Part as parts
+use Rattle.shape.proofs.Sides.{Side, sides, or-next}
+use Rattle.pairing.proofs.Numbers.{boxes-no}
 
 refused : (n : ℕ) (p : Pairing) → (n ≡ 0 → ⊥) → noPairs n 0 zero64 ≡ pairingAt n p
 refused zero p x = absurd (x refl)
@@ -52,30 +51,17 @@ module _ (gi : ℕ) (gt : List Float) (pi : ℕ) (pred : List Float) (limit tota
         no-truth e = sym (rw (eq-eqb gi 0 e)) ∙ accept (sym number ∙ good)
 
         module _ (zeros out : List Float) (z : length zeros ≡ 4096) (o : out ≡ matrixAfter Away boxes gt pred zeros) where
-          written : out ≡ overwrite (matrixOf Away gt pred (length gt / 4)) zeros
-          unfolding matrixAfter
-          written = o ∙ ap (λ (k : ℕ). matrixAfter Away k gt pred zeros) good
-
-          cells-size : length (matrixOf Away gt pred (length gt / 4)) ≡ gi * pi
-          cells-size = length-matrix Away gt pred (length gt / 4) ∙ (λ i. sym (both-sides .0 .boxes) i * sym (both-sides .1 .boxes) i)
-
           pub fit : gi * pi ≤ 4096
-          fit = room gi pi (both-sides .0 .few) (both-sides .1 .few)
+          fit = parts.fit Away gi gt pi pred (both-sides .0) (both-sides .1)
 
           pub has-room : gi * pi ≤ length out
-          has-room =
-              let f = fit in
-              let n = cells-size in
-              let l : length out ≡ length zeros = ap length written ∙ length-overwrite (matrixOf Away gt pred (length gt / 4)) zeros (omega arith) in
-              omega arith
+          has-room = parts.has-room Away gi gt pi pred (both-sides .0) (both-sides .1) boxes good zeros out z o
 
           part : take (gi * pi) out ≡ matrixOf Away gt pred gi
-          part =
-              ap (take (gi * pi)) written
-              ∙ (take-at (matrixOf Away gt pred (length gt / 4)) _ (gi * pi) cells-size ∙ ap (matrixOf Away gt pred) (sym (both-sides .0 .boxes)))
+          part = parts.part Away gi gt pi pred (both-sides .0) (both-sides .1) boxes good zeros out z o
 
           pub part-size : length (take (gi * pi) out) ≡ gi * pi
-          part-size = ap length (ap (take (gi * pi)) written ∙ take-at (matrixOf Away gt pred (length gt / 4)) _ (gi * pi) cells-size) ∙ cells-size
+          part-size = parts.part-size Away gi gt pi pred (both-sides .0) (both-sides .1) boxes good zeros out z o
 
           pub by-search : (gi ≡ 0 → ⊥) → pairedOf (take (gi * pi) out) gi pi limit total ≡ pairingOf gi gt pi pred limit total
           unfolding framePairs

@@ -5,6 +5,7 @@ use native.Mathlib.Omega.{arith}
 use lib.ListN.{length}
 use mir.Facts.{toZ-ofZ}
 use Rattle.greedy.specs.Greedy.{Fitting}
+use Rattle.greedy.proofs.Pairings.{pairs-fit, pairs-long, pairs-inside}
 use Rattle.motmetrics_update.specs.Update.{bookOf, frameAfter}
 use Rattle.motmetrics_update.proofs.Steps as law
 use Rattle.motmetrics_update.proofs.update_sound.Statement.{statement}
@@ -47,17 +48,17 @@ books c =
     ∙ law.paired (a .s) (a .frame-id) (a .object-ids .now) (a .hypothesis-ids .now) (a .distances .now) (e .before .shape-no .result) (e .before .shape-no .ensures) (e .if1 .left)
 
 array-share-prefix-pairs : tie.Need-array-share-prefix-pairs
-array-share-prefix-pairs c = law.pairs-fit _ _ _ (fits (c .before .before))
+array-share-prefix-pairs c = pairs-fit _ _ _ (fits (c .before .before))
 
 slice-aggregate-book-matches : tie.Need-slice-aggregate-book-matches
-slice-aggregate-book-matches c = law.pairs-long _ _ _ (fits (c .before .before .before))
+slice-aggregate-book-matches c = pairs-long _ _ _ (fits (c .before .before .before))
 
 book-matches-requires : tie.Need-book-matches-requires
 book-matches-requires c κs =
     let p = c .before .before .before in
     let f = fits p in
     let s = p .before .before .before .before in
-    (s .pre .1, rw (← law.pairs-long _ _ (p .pair-by-distance .result) f) (f .few), law.pairs-inside _ _ (p .pair-by-distance .result) f)
+    (s .pre .1, rw (← pairs-long _ _ (p .pair-by-distance .result) f) (f .few), pairs-inside _ _ (p .pair-by-distance .result) f)
 
 returns-2 : tie.Need-returns-2
 returns-2 c =

@@ -1,8 +1,8 @@
--- `pairing::size_no` meets its contract. Assumes nothing.
+-- `shape::size_no` meets its contract. Assumes nothing.
 use borrow.Author.Tests.{lt-ltb, le-ltb}
-use Rattle.pairing.specs.Pairing.{sizeNo}
-use Rattle.pairing.proofs.size_no.Statement.{statement}
-use Rattle.pairing.proofs.size_no.Tie as tie
+use Rattle.shape.specs.Shape.{sizeNo}
+use Rattle.shape.proofs.size_no.Statement.{statement}
+use Rattle.shape.proofs.size_no.Tie as tie
 
 returns : tie.Need-returns
 unfolding sizeNo

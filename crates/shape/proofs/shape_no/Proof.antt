@@ -1,10 +1,10 @@
--- `pairing::shape_no` meets its contract. Assumes nothing.
+-- `shape::shape_no` meets its contract. Assumes nothing.
 use Rattle.matrix.specs.Matrix.{orNo}
 use Rattle.matrix.proofs.Laws.{or-first}
-use Rattle.pairing.specs.Pairing.{shapeNo}
+use Rattle.shape.specs.Shape.{shapeNo}
 use borrow.Author.Needs.{needs}
-use Rattle.pairing.proofs.shape_no.Statement.{statement}
-use Rattle.pairing.proofs.shape_no.Tie as tie
+use Rattle.shape.proofs.shape_no.Statement.{statement}
+use Rattle.shape.proofs.shape_no.Tie as tie
 
 size-no-requires : tie.Need-size-no-requires
 size-no-requires c κs = search needs

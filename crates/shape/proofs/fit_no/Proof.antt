@@ -1,8 +1,8 @@
--- `pairing::fit_no` meets its contract. Assumes nothing.
+-- `shape::fit_no` meets its contract. Assumes nothing.
 use borrow.Author.Tests.{eq-eqb, ne-eqb}
-use Rattle.pairing.specs.Pairing.{fitNo}
-use Rattle.pairing.proofs.fit_no.Statement.{statement}
-use Rattle.pairing.proofs.fit_no.Tie as tie
+use Rattle.shape.specs.Shape.{fitNo}
+use Rattle.shape.proofs.fit_no.Statement.{statement}
+use Rattle.shape.proofs.fit_no.Tie as tie
 
 returns : tie.Need-returns
 unfolding fitNo
