@@ -6,10 +6,12 @@ use mathlib.Core.List.{List, [], _∷_, map}
 use Prim.Native.Nat.{ℕ, zero, suc, _<_, _≤_}
 use native.Mathlib.Nat.{not-suc-le-zero, le-of-suc-le-suc}
 use native.Mathlib.Omega.{arith}
-use borrow.Author.Tests.{ltb-false}
-use lib.Dec.{ltb}
+use borrow.Author.Tests.{ltb-false, le-leb}
+use lib.Dec.{ltb, leb}
 use lib.IntN.{ℤ, pos}
-use lib.ListN.{length, take, getD, length-append, length-set}
+use lib.ListN.{length, take, drop, getD, length-append, length-set}
+use lib.Seq.{take-append-seam}
+use Rattle.counts.proofs.Tests.{both}
 use Rattle.slots.specs.declared.Lookup.{Lookup}
 use Rattle.slots.specs.declared.Lookup.the-variants.{At, Absent}
 use Rattle.slots.specs.Slots.{seekOf, switches, distinctOf}
@@ -17,10 +19,11 @@ use Rattle.seen.specs.Seen.{seenAll}
 use Rattle.seen.proofs.Distinct.{all-once}
 use Rattle.partners.specs.declared.Truths.{Truths}
 use Rattle.partners.specs.declared.SeenTruths.{SeenTruths}
-use Rattle.partners.specs.Partners.{lastIs, Pair, Table, lastOf, matchAt, matchOne, matchAll, switchesOf, tableOf, withTable, seenTable, seenTruths}
+use Rattle.partners.specs.declared.Booked.{Booked}
+use Rattle.partners.specs.Partners.{lastIs, Pair, Table, lastOf, matchAt, matchOne, matchAll, switchesOf, tableOf, withTable, seenTable, seenTruths, bookedOf, idsSound, truthsSound}
 use Rattle.partners.proofs.Turns.{ids-at}
 
-abbrev truthOf : Pair → ℤ
+abbrev pub truthOf : Pair → ℤ
 truthOf p = p .truth
 
 -- what stands past the end of a list of pairs; nothing turns on it
@@ -74,3 +77,37 @@ unfolding seenTruths
 seen-few t ids f =
     let l = seenAll (tableOf t .ids) ids in
     few-when (ltb 256 (length l)) (record { full = true; truths = t }) (record { full = false; truths = withTable t (seenTable (tableOf t) l) }) (length l) refl refl refl f
+
+-- ---- A SOUND TABLE STAYS SOUND, full or not
+pub table-once : (t : Truths) → truthsSound t ≡ true → distinctOf (tableOf t .ids) ≡ true
+unfolding idsSound
+table-once t s = both (leb (t .used) 256) (distinctOf (tableOf t .ids)) s .1
+
+kept-sound : (b : Bool) (t : Truths) (u : Table) → ltb 256 (length (u .ids)) ≡ b → truthsSound t ≡ true → distinctOf (u .ids) ≡ true
+    → truthsSound (cond b t (withTable t u)) ≡ true
+unfolding idsSound
+kept-sound true t u e s d = s
+kept-sound false t u e s d =
+    rw (le-leb (length (u .ids)) 256 (ltb-false 256 (length (u .ids)) e), take-append-seam (u .ids) (drop (length (u .ids)) (t .ids))) d
+
+pick-truths : (b : Bool) (x y : SeenTruths) → cond b x y .truths ≡ cond b (x .truths) (y .truths)
+pick-truths true x y = refl
+pick-truths false x y = refl
+
+pick-booked : (b : Bool) (x y : Booked) → cond b x y .truths ≡ cond b (x .truths) (y .truths)
+pick-booked true x y = refl
+pick-booked false x y = refl
+
+pub seen-sound : (t : Truths) (ids : List ℤ) → truthsSound t ≡ true → truthsSound (seenTruths t ids .truths) ≡ true
+unfolding seenTruths
+seen-sound t ids s =
+    let l = seenAll (tableOf t .ids) ids in
+    ap truthsSound (pick-truths (ltb 256 (length l)) _ _)
+    ∙ kept-sound (ltb 256 (length l)) t (seenTable (tableOf t) l) refl s (all-once (tableOf t .ids) ids (table-once t s))
+
+pub booked-sound : (t : Truths) (ps : List Pair) → truthsSound t ≡ true → truthsSound (bookedOf t ps .truths) ≡ true
+unfolding bookedOf
+booked-sound t ps s =
+    let u = matchAll (tableOf t) ps in
+    ap truthsSound (pick-booked (ltb 256 (length (u .ids))) _ _)
+    ∙ kept-sound (ltb 256 (length (u .ids))) t u refl s (ids-once (tableOf t) ps (table-once t s))

@@ -1,24 +1,27 @@
 -- What is seen in the end: the ids that were there, the frame's, no other, and none twice. So its length is the number of distinct
 -- ids of both, which refusal 5 speaks of. Assumes nothing.
 use mathlib.Core.Path.{_≡_, refl, sym, ap, _∙_}
-use mathlib.Core.Bool.{Bool, true, false, true≢false}
+use mathlib.Core.Bool.{Bool, true, false, cond, true≢false}
 use mathlib.Core.List.{List, [], _∷_, _++_}
 use mathlib.Core.Logic.{_⊎_, inl, inr, ⊎-elim}
 use Prim.Native.Nat.{ℕ, zero, suc, _<_}
 use native.Mathlib.Omega.{arith}
-use borrow.Author.Tests.{ltb-true, ltb-false}
-use lib.Dec.{ltb}
+use borrow.Author.Tests.{ltb-true, ltb-false, le-leb}
+use lib.Dec.{ltb, leb}
 use lib.IntN.{ℤ, pos}
-use lib.ListN.{length, getD, length-append, List·getD-append}
-use lib.Seq.{getD-take, getD-append-seam}
+use lib.ListN.{length, drop, getD, length-append, List·getD-append}
+use lib.Seq.{take-append-seam, getD-take, getD-append-seam}
 use Rattle.counts.specs.Counts.{sameId}
 use Rattle.counts.proofs.Ids.{same-refl}
+use Rattle.counts.proofs.Tests.{both}
 use Rattle.slots.specs.declared.Lookup.{Lookup}
 use Rattle.slots.specs.declared.Lookup.the-variants.{At, Absent}
 use Rattle.slots.specs.Slots.{seekOf, distinctOf}
 use Rattle.slots.proofs.Lookups.{found-below, absent-reads}
 use Rattle.slots.proofs.Faults.{distinct-reads, distinct-is}
-use Rattle.seen.specs.Seen.{seenAt, seenOne, seenAll}
+use Rattle.seen.specs.declared.Hypotheses.{Hypotheses}
+use Rattle.seen.specs.declared.SeenHypotheses.{SeenHypotheses}
+use Rattle.seen.specs.Seen.{seenAt, seenOne, seenAll, over, hypothesesOf, seenBy, seenHypotheses, hypothesesSound}
 use Rattle.seen.specs.Holds.{Holds}
 use Rattle.seen.proofs.Growth.{found-there, all-long, all-starts}
 
@@ -113,3 +116,33 @@ pub all-once : (l ids : List ℤ) → distinctOf l ≡ true → distinctOf (seen
 unfolding seenAll
 all-once l [] d = d
 all-once l (x ∷ xs) d = all-once (seenOne l x) xs (one-once l x (seekOf l x) refl d)
+
+-- ---- ids that are all there already
+at-or-absent : (l : List ℤ) (id : ℤ) (o : Lookup) → seekOf l id ≡ o → Holds l id → seenAt l id o ≡ l
+unfolding seenAt
+at-or-absent l id (At k) e h = refl
+at-or-absent l id Absent e h = absurd (last-apart l id e (h .place) (h .within) (h .there))
+
+pub none-new : (l ids : List ℤ) → ((id : ℤ) → Holds ids id → Holds l id) → seenAll l ids ≡ l
+unfolding seenAll
+none-new l [] f = refl
+none-new l (x ∷ xs) f =
+    let here : Holds l x = f x (record { place = 0; within = omega arith; there = refl }) in
+    ap (λ (y : List ℤ). seenAll y xs) (at-or-absent l x (seekOf l x) refl here)
+    ∙ none-new l xs (λ (id : ℤ) (h : Holds xs id). f id (later x xs id h))
+
+-- ---- sound hypotheses stay sound, full or not
+kept-sound : (b : Bool) (h : Hypotheses) (l : List ℤ) → ltb 1024 (length l) ≡ b → hypothesesSound h ≡ true → distinctOf l ≡ true
+    → hypothesesSound (cond {A = SeenHypotheses} b (record { full = true; hypotheses = h }) (record { full = false; hypotheses = hypothesesOf (over l (h .ids)) (length l) }) .hypotheses) ≡ true
+unfolding hypothesesSound
+kept-sound true h l e s d = s
+kept-sound false h l e s d = rw (le-leb (length l) 1024 (ltb-false 1024 (length l) e), take-append-seam l (drop (length l) (h .ids))) d
+
+pub seen-once : (h : Hypotheses) → hypothesesSound h ≡ true → distinctOf (seenBy h) ≡ true
+unfolding hypothesesSound
+seen-once h s = both (leb (h .used) 1024) (distinctOf (seenBy h)) s .1
+
+pub hypotheses-stay-sound : (h : Hypotheses) (ids : List ℤ) → hypothesesSound h ≡ true → hypothesesSound (seenHypotheses h ids .hypotheses) ≡ true
+unfolding seenHypotheses
+hypotheses-stay-sound h ids s =
+    let l = seenAll (seenBy h) ids in kept-sound (ltb 1024 (length l)) h l refl s (all-once (seenBy h) ids (seen-once h s))
