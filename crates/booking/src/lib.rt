@@ -105,7 +105,7 @@ fn event_at(
 
 // The log with the events of a frame after its own.
 pub fn book_frame(
-    log: Log,
+    mut log: Log,
     frame: i32,
     object_ids: &[i32],
     hypothesis_ids: &[i32],
@@ -125,11 +125,10 @@ pub fn book_frame(
     let left_rows = left_of(&rows, object_ids.len());
     let left_cols = left_of(&cols, hypothesis_ids.len());
     let count = object_ids.len() + hypothesis_ids.len() - used;
-    let mut t = log;
-    let start = t.used;
+    let start = log.used;
     let mut k: usize = 0;
     while k < count {
-        t.events[start + k] = event_at(
+        log.events[start + k] = event_at(
             frame,
             object_ids,
             hypothesis_ids,
@@ -143,6 +142,6 @@ pub fn book_frame(
         );
         k = k + 1;
     }
-    t.used = start + count;
-    t
+    log.used = start + count;
+    log
 }

@@ -1,12 +1,9 @@
 // The update of module 3's MOTAccumulator: a frame paired by rising distance and booked whole, or refused with the state as it came.
 // Ported from norfair-rs, internal/motmetrics/accumulator.rs, which follows py-motmetrics (NOTICE).
-use greedy::Pairing;
 use motmetrics::MOTAccumulator;
 ghost use mathlib.Core.Path.{_≡_};
-ghost use Prim.Native.Nat.{_*_, _≤_};
-ghost use lib.ListN.{length};
-ghost use Rattle.greedy.specs.Greedy.{Fitting};
-ghost use Rattle.motmetrics_update.specs.Update.{shapeNo, bookOf, frameAfter, updateOf};
+ghost use Prim.Native.Nat.{_≤_};
+ghost use Rattle.motmetrics_update.specs.Update.{shapeNo, frameAfter, updateOf};
 
 // The number of an update, and the state: beside a refusal the one that came.
 pub struct Updated {
@@ -30,20 +27,28 @@ fn shape_no(rows: usize, columns: usize, size: usize) -> u32
     0
 }
 
-// A frame whose pairing is handed in: 5 for a table that would not hold its matched ids, 6 for a log that would not hold its events.
-fn book(
+// The update of a state that is sound already: nothing of its table is tested again. Of soundness it needs the used counts alone.
+// (One function, so that the log is copied as seldom as can be.)
+pub fn update_sound(
     s: MOTAccumulator,
     frame_id: i32,
     object_ids: &[i32],
     hypothesis_ids: &[i32],
     distances: &[f64],
-    p: Pairing,
 ) -> Updated
     requires { ⌜ (s .log .used ≤ 1024) × (s .«last_match» .used ≤ 256) ⌝ }
-    requires { ⌜ (length (now «object_ids») ≤ 64) × (length (now «hypothesis_ids») ≤ 64) × (length (now distances) ≡ length (now «object_ids») * length (now «hypothesis_ids»)) ⌝ }
-    requires { ⌜ Fitting (length (now «object_ids»)) (length (now «hypothesis_ids»)) p ⌝ }
-    ensures { λ r. ⌜ r ≡ bookOf s «frame_id» (now («object_ids» .entry)) (now («hypothesis_ids» .entry)) (now (distances .entry)) p ⌝ }
+    ensures { λ r. ⌜ r ≡ frameAfter s «frame_id» (now («object_ids» .entry)) (now («hypothesis_ids» .entry)) (now (distances .entry)) ⌝ }
 {
+    let rows = object_ids.len();
+    let columns = hypothesis_ids.len();
+    let number = shape_no(rows, columns, distances.len());
+    if number != 0 {
+        return Updated {
+            number: number,
+            state: s,
+        };
+    }
+    let p = greedy_pairs::pair_by_distance(distances, rows, columns);
     let used = p.used;
     let pairs = p.pairs;
     let table = s.last_match;
@@ -54,7 +59,7 @@ fn book(
             state: s,
         };
     }
-    let count = object_ids.len() + hypothesis_ids.len() - used;
+    let count = rows + columns - used;
     let log = s.log;
     if log.used + count > 1024 {
         return Updated {
@@ -80,30 +85,6 @@ fn book(
             last_match: last_match,
         },
     }
-}
-
-// The update of a state that is sound already: nothing of its table is tested again. Of soundness it needs the used counts alone.
-pub fn update_sound(
-    s: MOTAccumulator,
-    frame_id: i32,
-    object_ids: &[i32],
-    hypothesis_ids: &[i32],
-    distances: &[f64],
-) -> Updated
-    requires { ⌜ (s .log .used ≤ 1024) × (s .«last_match» .used ≤ 256) ⌝ }
-    ensures { λ r. ⌜ r ≡ frameAfter s «frame_id» (now («object_ids» .entry)) (now («hypothesis_ids» .entry)) (now (distances .entry)) ⌝ }
-{
-    let rows = object_ids.len();
-    let columns = hypothesis_ids.len();
-    let number = shape_no(rows, columns, distances.len());
-    if number != 0 {
-        return Updated {
-            number: number,
-            state: s,
-        };
-    }
-    let p = greedy_pairs::pair_by_distance(distances, rows, columns);
-    book(s, frame_id, object_ids, hypothesis_ids, distances, p)
 }
 
 // The update of any state by any frame: the lowest number that applies, and the state.

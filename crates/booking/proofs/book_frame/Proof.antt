@@ -13,11 +13,11 @@ use Rattle.booking.proofs.book_frame.Statement.{statement}
 use Rattle.booking.proofs.book_frame.Tie as tie
 
 abbrev Inv-loop : tie.InvT-loop
-Inv-loop frame object-ids hypothesis-ids distances switched used pairs left-rows left-cols count t₀ start k₀ t k =
-    (k ≤ count) × law.Writing (t₀ .events) start (eventAt (toZ w32 frame) object-ids hypothesis-ids distances pairs switched used left-rows left-cols) (t .events) k
+Inv-loop frame object-ids hypothesis-ids distances switched log₀ used pairs left-rows left-cols count start k₀ log k =
+    (k ≤ count) × law.Writing (log₀ .events) start (eventAt (toZ w32 frame) object-ids hypothesis-ids distances pairs switched used left-rows left-cols) (log .events) k
 
 abbrev μ-loop : tie.MeasureT-loop
-μ-loop frame object-ids hypothesis-ids distances switched used pairs left-rows left-cols count t₀ start k₀ t k = count - k
+μ-loop frame object-ids hypothesis-ids distances switched log₀ used pairs left-rows left-cols count start k₀ log k = count - k
 
 left-of-requires : tie.Need-left-of-requires Inv-loop μ-loop
 left-of-requires c κs = c .before .before .before .before .before .pre .0 .0
@@ -51,7 +51,7 @@ event-at-requires c κs =
     )
 
 room : (c : tie.After-event-at Inv-loop μ-loop) → let i = c .before .before .before .before in let s = i .before .before .before .before .before .before .before .before .before .before in
-    s .args .log .used + i .before .loop .k < 1024
+    s .args .t1 .used + i .before .loop .k < 1024
 room c =
     let i = c .before .before .before .before in
     let s = i .before .before .before .before .before .before .before .before .before .before in
@@ -64,8 +64,8 @@ add-t29 c = record { fits = omega (arith, room c) }
 mul-t30 : tie.Need-mul-t30 Inv-loop μ-loop
 mul-t30 c = record { fits = omega (arith, room c) }
 
-element-set-from-t : tie.Need-element-set-from-t Inv-loop μ-loop
-element-set-from-t c = room c
+element-set-from-log : tie.Need-element-set-from-log Inv-loop μ-loop
+element-set-from-log c = room c
 
 add-k : tie.Need-add-k Inv-loop μ-loop
 add-k c = search needs
@@ -78,10 +78,10 @@ loop-again c =
     let i = c .before .before .before .before in
     let l = i .before .loop in
     let h = i .loop-test .taken in
-    (omega arith, law.one-written _ (l .t .events) _ _ (l .k) _ (c .event-at .result) (l .inv .1) (c .event-at .ensures) refl)
+    (omega arith, law.one-written _ (l .log .events) _ _ (l .k) _ (c .event-at .result) (l .inv .1) (c .event-at .ensures) refl)
 
-add-t : tie.Need-add-t Inv-loop μ-loop
-add-t c =
+add-log : tie.Need-add-log Inv-loop μ-loop
+add-log c =
     let s = c .before .before .before .before .before .before .before .before .before .before in
     record { fits = omega (arith, s .pre .1 .1) }
 
@@ -90,7 +90,7 @@ returns c =
     let l = c .before .loop in
     let m = c .before .before in
     let s = m .before .before .before .before .before .before .before .before in
-    law.all-written (s .args .log) (l .t .events) _ (l .k) _ _ _ (l .inv .1) (omega arith) refl
+    law.all-written (s .args .t1) (l .log .events) _ (l .k) _ _ _ (l .inv .1) (omega arith) refl
     (rw (toZ-ofZ (s .fits .frame), m .before .before .left-of .ensures, m .left-of2 .ensures)
     (law.all-events (s .args .frame) (s .args .object-ids .now) (s .args .hypothesis-ids .now) (s .args .distances .now) (s .args .p) (s .args .switched .now) (s .pre .1 .0)))
 
@@ -108,9 +108,9 @@ book-frame-spec =
     event-at-requires
     add-t29
     mul-t30
-    element-set-from-t
+    element-set-from-log
     add-k
     loop-less
     loop-again
-    add-t
+    add-log
     returns)

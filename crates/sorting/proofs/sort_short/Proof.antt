@@ -1,13 +1,13 @@
--- `sorting::sort_by_key` meets its contract. The first i entries have been put in, and the rest is to come. Assumes nothing.
+-- `sorting::sort_short` meets its contract. The first i entries have been put in, and the rest is to come. Assumes nothing.
 use mathlib.Core.Path.{_≡_, refl, sym, _∙_}
 use Prim.Native.Nat.{_≤_, _-_, _<_}
 use native.Mathlib.Omega.{arith}
 use borrow.Author.Needs.{needs, scaled-fits}
 use lib.ListN.{length}
 use Rattle.sorting.proofs.Insertion.{within, Putting, none-put, one-put, all-put}
--- `sorting::sort_by_key` meets its contract. The first i entries have been put in, and the rest is to come. Assumes nothing.
-use Rattle.sorting.proofs.sort_by_key.Statement.{statement}
-use Rattle.sorting.proofs.sort_by_key.Tie as tie
+-- `sorting::sort_short` meets its contract. The first i entries have been put in, and the rest is to come. Assumes nothing.
+use Rattle.sorting.proofs.sort_short.Statement.{statement}
+use Rattle.sorting.proofs.sort_short.Tie as tie
 
 abbrev Inv-loop : tie.InvT-loop
 Inv-loop keys order₀ i₀ order i = (i ≤ length order) × (length order ≡ length order₀) × Putting keys order₀ order i
@@ -62,8 +62,8 @@ returns c =
     let s = c .before .before .before .before in
     all-put (s .args .keys .now) (s .args .order .now) (c .before .loop .order) (c .before .loop .i) (omega arith) (c .before .loop .inv .2)
 
-pub sort-by-key-spec : {M : Type 1} → statement M
-sort-by-key-spec =
+pub sort-short-spec : {M : Type 1} → statement M
+sort-short-spec =
     tie.close
     (tie.spec
     Inv-loop
