@@ -12,7 +12,7 @@ write-pattern-requires : tie.Need-write-pattern-requires
 write-pattern-requires c κs = search needs
 
 returns : tie.Need-returns
-returns c = (search needs, (search needs, sym (length-take-le _ _ (search needs))))
+returns c = ((search needs, (search needs, sym (length-take-le _ _ (search needs)))), rw (← c .before .before .bits-of .ensures) (c .write-pattern .ensures .written))
 
 pub write-six-spec : {M : Type 1} → statement M
 write-six-spec = tie.close (tie.spec bits-of-requires write-pattern-requires returns)

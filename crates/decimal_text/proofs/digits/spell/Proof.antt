@@ -1,11 +1,14 @@
--- `decimal_text::digits::spell` is safe: nine places are left for each limb. Assumes nothing.
+-- `decimal_text::digits::spell` meets its contract: nine places are left for each limb. Assumes nothing.
+use mathlib.Core.Path.{_≡_}
+use mathlib.Core.Bool.{true}
+use Rattle.decimal_text.specs.Texts.{allDigits}
 use Prim.Native.Nat.{_-_, _≤_}
 use borrow.Author.Needs.{needs}
 use Rattle.decimal_text.proofs.digits.spell.Statement.{statement}
 use Rattle.decimal_text.proofs.digits.spell.Tie as tie
 
 abbrev Inv-loop : tie.InvT-loop
-Inv-loop n digits₀ i₀ digits i = i ≤ 35
+Inv-loop n digits₀ i₀ digits i = (i ≤ 35) × (allDigits digits ≡ true)
 
 abbrev μ-loop : tie.MeasureT-loop
 μ-loop n digits₀ i₀ digits i = 35 - i
