@@ -1,0 +1,4 @@
+pub mod Decimals
+pub mod Laying
+pub mod Names
+pub mod Finite
