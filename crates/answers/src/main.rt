@@ -5,7 +5,25 @@ use lines::session;
 use lines::session::Reply;
 use lines::session::Session;
 
-// The accumulators' requests; where none has the name, the line says none.
+// The requests of the accumulators of events; where none has the name, the line says none.
+fn answer_events(
+    name: &[u8],
+    from: &mut [u8; 65536],
+    to: &mut [u8; 65536],
+    a: &mut [f64],
+    b: &mut [f64],
+    s: Session,
+) -> Session {
+    if let Reply::Given(t) = mot_requests::answer(name, from, to, a, s) {
+        return t;
+    }
+    if let Reply::Given(t) = metric_requests::answer(name, from, to, a, b, s) {
+        return t;
+    }
+    session::unknown(from, to, s)
+}
+
+// The accumulators' requests.
 fn answer_frames(
     name: &[u8],
     from: &mut [u8; 65536],
@@ -17,13 +35,7 @@ fn answer_frames(
     if let Reply::Given(t) = extended_requests::answer(name, from, to, a, b, s) {
         return t;
     }
-    if let Reply::Given(t) = mot_requests::answer(name, from, to, a, s) {
-        return t;
-    }
-    if let Reply::Given(t) = metric_requests::answer(name, from, to, a, b, s) {
-        return t;
-    }
-    session::unknown(from, to, s)
+    answer_events(name, from, to, a, b, s)
 }
 
 // Each crate of requests answers those that it knows.
