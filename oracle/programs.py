@@ -6,6 +6,7 @@ import sys
 from pathlib import Path
 
 from requests import CALLS
+from sequences import SHAPES, Answer, taken_apart
 
 HERE = Path(__file__).resolve().parent
 OUT = Path(os.environ.get("ORACLE_OUT", HERE.parent / "target" / "oracle"))
@@ -15,7 +16,8 @@ COMMANDS = {
     "port": [str(HERE / "port")],
 }
 NEEDS = {"second": COMMANDS["second"][-1], "rust": COMMANDS["rust"][0], "port": HERE.parent / "target/bin/answers"}
-MAKES = {"second": "it belongs here", "rust": "oracle/build makes it", "port": "rt check answers makes it (or --without-port)"}
+MAKES = {"second": "it belongs here", "rust": "oracle/build makes it",
+         "port": "rt check answers makes it (or --without-port)"}
 ENDED = "no answer"
 
 
@@ -38,9 +40,23 @@ def ask(program, lines):
     return answers
 
 
-def rust_can_answer(line, answer):
-    """Whether the Rust is asked: not what the second program refuses, nor what is no request."""
-    call = CALLS.get(line.split(" ", 1)[0])
-    if call is None or answer == "?" or answer.startswith(ENDED):
-        return False
-    return not call.numbered or answer.startswith("0 ")
+def ask_rust(lines, second):
+    """What the Rust says, by the request's place, and what it has to say; `second` are the second program's answers.
+
+    Left out is what the second program refuses, and what is no request. Of a sequence of frames the Rust gets those
+    that are not refused.
+    """
+    asked, expected = {}, {}
+    for i, (line, answer) in enumerate(zip(lines, second)):
+        name = line.split(" ", 1)[0]
+        if name not in CALLS or answer.endswith("?") or answer.startswith(ENDED):
+            continue
+        if name in SHAPES:
+            sequence = taken_apart(line)
+            said = Answer(sequence, answer)
+            if said.getters[0] == "0" and sequence.fits_rust():
+                asked[i] = " ".join(["refused", str(len(said.numbers)), *said.numbers, line])
+                expected[i] = said.in_rust_order()
+        elif not CALLS[name].numbered or answer.startswith("0 "):
+            asked[i], expected[i] = line, answer
+    return dict(zip(asked, ask("rust", list(asked.values())))), expected

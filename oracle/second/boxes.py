@@ -55,15 +55,25 @@ def _matrix_number(truth, predicted, room, refuses_boxes):
     if len(truth) % 4 or len(predicted) % 4:
         return SHAPE
     if refuses_boxes and rows and columns:
-        if any(map(is_bad, _boxes(truth))) or any(map(is_bad, _boxes(predicted))):
+        if any_bad(truth) or any_bad(predicted):
             return BAD_BOX
     if rows * columns > room:
         return SHORT
     return DONE
 
 
-def _boxes(run):
+def boxes_in(run):
     return [run[i:i + 4] for i in range(0, len(run) - 3, 4)]
+
+
+def any_bad(run):
+    return any(map(is_bad, boxes_in(run)))
+
+
+def entries(entry, truth, predicted):
+    """The entries of a matrix, row by row."""
+    columns = boxes_in(predicted)
+    return [entry(t, p) for t in boxes_in(truth) for p in columns]
 
 
 def _matrix(entry, refuses_boxes):
@@ -73,8 +83,7 @@ def _matrix(entry, refuses_boxes):
         number = _matrix_number(truth, predicted, len(lent), refuses_boxes)
         after = [kept(x) for x in lent]
         if number == DONE:
-            columns = _boxes(predicted)
-            written = [computed(entry(t, p)) for t in _boxes(truth) for p in columns]
+            written = list(map(computed, entries(entry, truth, predicted)))
             after[:len(written)] = written
         return "%d %s" % (number, run_words(after))
     return answer

@@ -3,12 +3,17 @@
 import sys
 
 import boxes
+import extended
 import floats
+import lifecycles
+import metrics
+import mot
 import search
 from words import Fault, Request
 
 # a module of document 01 is a file; its requests are added here
-ANSWERS = {**floats.ANSWERS, **boxes.ANSWERS, **search.ANSWERS}
+MODULES = floats, boxes, search, lifecycles, extended, mot, metrics
+ANSWERS = {name: answer for module in MODULES for name, answer in module.ANSWERS.items()}
 
 
 def answer(line):

@@ -1,12 +1,27 @@
 //! The port beside the Rust, in one process: the same inputs, both built for release, five rounds.
+//! Words name the parts to time (boxes, search, extended, mot); without one all are.
 
 mod boxes;
+mod extended;
+mod mot;
 mod port;
 mod rounds;
 mod search;
 
+const PARTS: &[(&str, fn())] =
+    &[("boxes", boxes::bench), ("search", search::bench), ("extended", extended::bench), ("mot", mot::bench)];
+
 fn main() {
+    let asked: Vec<String> = std::env::args().skip(1).collect();
+    if let Some(word) = asked.iter().find(|word| PARTS.iter().all(|(name, _)| name != word)) {
+        let names: Vec<_> = PARTS.iter().map(|(name, _)| *name).collect();
+        eprintln!("bench: no part is called {word}; there are {}", names.join(", "));
+        std::process::exit(2);
+    }
     rounds::heading();
-    boxes::bench();
-    search::bench();
+    for (name, bench) in PARTS {
+        if asked.is_empty() || asked.iter().any(|word| word == name) {
+            bench();
+        }
+    }
 }

@@ -1,4 +1,4 @@
-//! What crates/mot_c exports. A slice goes over as a pointer and a length.
+//! What crates/mot_c and crates/bench_c export. A slice goes over as a pointer and a length.
 
 extern "C" {
     fn mot_compute_iou_distance_matrix(
@@ -10,6 +10,23 @@ extern "C" {
     fn mot_linear_sum_assignment(
         cost: *const f64, cost_len: usize, rows: usize, cols: usize, max_cost: f64, out: *mut usize, out_len: usize,
     ) -> u32;
+    fn bench_update(
+        gt_ids: *const i32, gt_ids_len: usize, gt: *const f64, gt_len: usize, pred_ids: *const i32, pred_ids_len: usize,
+        pred: *const f64, pred_len: usize, threshold: f64, times: u64,
+    ) -> f64;
+    fn bench_update_sound(
+        gt_ids: *const i32, gt_ids_len: usize, gt: *const f64, gt_len: usize, pred_ids: *const i32, pred_ids_len: usize,
+        pred: *const f64, pred_len: usize, threshold: f64, times: u64,
+    ) -> f64;
+    fn bench_mot_update(
+        ids: *const i32, ids_len: usize, hyp_ids: *const i32, hyp_ids_len: usize, distances: *const f64,
+        distances_len: usize, times: u64,
+    ) -> usize;
+    fn bench_mot_update_sound(
+        ids: *const i32, ids_len: usize, hyp_ids: *const i32, hyp_ids_len: usize, distances: *const f64,
+        distances_len: usize, times: u64,
+    ) -> usize;
+    fn bench_pair_by_distance(distances: *const f64, distances_len: usize, rows: usize, columns: usize) -> usize;
 }
 
 /// Places of a solver's answer: 5 counts, then 64 each of the pairs' rows, their columns, the rows left, the columns left.
@@ -34,4 +51,28 @@ pub fn linear_sum_assignment(cost: &[f64], rows: usize, cols: usize, max_cost: f
     unsafe {
         mot_linear_sum_assignment(cost.as_ptr(), cost.len(), rows, cols, max_cost, out.as_mut_ptr(), out.len())
     }
+}
+
+/// The extended accumulator's total distance after so many updates by one frame, truths and predictions with the same ids.
+pub fn updates(ids: &[i32], truth: &[f64], predicted: &[f64], threshold: f64, times: u64, sound: bool) -> f64 {
+    let call = if sound { bench_update_sound } else { bench_update };
+    // SAFETY: as above
+    unsafe {
+        call(
+            ids.as_ptr(), ids.len(), truth.as_ptr(), truth.len(), ids.as_ptr(), ids.len(), predicted.as_ptr(),
+            predicted.len(), threshold, times,
+        )
+    }
+}
+
+/// How many events module 3's accumulator has logged after so many updates by one frame.
+pub fn mot_updates(ids: &[i32], distances: &[f64], times: u64, sound: bool) -> usize {
+    let call = if sound { bench_mot_update_sound } else { bench_mot_update };
+    // SAFETY: as above
+    unsafe { call(ids.as_ptr(), ids.len(), ids.as_ptr(), ids.len(), distances.as_ptr(), distances.len(), times) }
+}
+
+pub fn pair_by_distance(distances: &[f64], side: usize) -> usize {
+    // SAFETY: as above
+    unsafe { bench_pair_by_distance(distances.as_ptr(), distances.len(), side, side) }
 }

@@ -1,15 +1,29 @@
 // The port's side of the comparison: a request a line in, an answer a line out (oracle/PROTOCOL.md).
-mod box_requests;
-mod float_requests;
-mod search_requests;
-mod session;
-
 use lines::input;
 use lines::output;
-use session::Reply;
-use session::Session;
+use lines::session;
+use lines::session::Reply;
+use lines::session::Session;
 
-// Each module of requests answers those that it knows.
+// The accumulators' requests; where none has the name, the line says none.
+fn answer_frames(
+    name: &[u8],
+    from: &mut [u8; 65536],
+    to: &mut [u8; 65536],
+    a: &mut [f64],
+    b: &mut [f64],
+    s: Session,
+) -> Session {
+    if let Reply::Given(t) = extended_requests::answer(name, from, to, a, b, s) {
+        return t;
+    }
+    if let Reply::Given(t) = mot_requests::answer(name, from, to, a, s) {
+        return t;
+    }
+    session::unknown(from, to, s)
+}
+
+// Each crate of requests answers those that it knows.
 fn answer(
     name: &[u8],
     from: &mut [u8; 65536],
@@ -19,16 +33,10 @@ fn answer(
     c: &mut [f64],
     s: Session,
 ) -> Session {
-    if let Reply::Given(t) = float_requests::answer(name, from, to, s) {
+    if let Reply::Given(t) = requests::answer(name, from, to, a, b, c, s) {
         return t;
     }
-    if let Reply::Given(t) = box_requests::answer(name, from, to, a, b, c, s) {
-        return t;
-    }
-    if let Reply::Given(t) = search_requests::answer(name, from, to, a, s) {
-        return t;
-    }
-    session::unknown(from, to, s)
+    answer_frames(name, from, to, a, b, s)
 }
 
 fn answer_line(

@@ -14,19 +14,13 @@ use Rattle.matrix.specs.declared.Measure.the-variants.{Away}
 use Rattle.matrix.proofs.Laws.{length-matrix, or-zero}
 use Rattle.solver.specs.Solution.{solutionOf}
 use Rattle.solver.proofs.Lists.{Placed, solution-placed}
-use Rattle.rows.specs.Rows.{Lies}
 use Rattle.pairing.specs.declared.Pairing.{Pairing}
 use Rattle.shape.specs.Shape.{shapeNo}
 use Rattle.pairing.specs.Pairing.{pairingNo, noPairs, pairedOf, framePairs, pairingAt, pairingOf}
 use Rattle.shape.proofs.Sides.{sides}
 use Rattle.pairing.proofs.Placed.{taken}
 use Rattle.pairing.proofs.Ways.{accept}
-
--- what the booking asks of a pairing
-pub record Lie (gi pi : ℕ) (p : Pairing) : Type 0 where
-  pub lists : Lies gi pi (p .«pair_rows») (p .«pair_cols») (p .«left_rows») (p .pairs) (p .lefts)
-  pub few-truths : gi ≤ 64
-  pub few-extra : p .extra ≤ 64
+use Rattle.extended.specs.Update.{Lie}
 
 suc-ne : (n : ℕ) → suc n ≡ 0 → ⊥
 suc-ne n e = omega arith

@@ -1,10 +1,45 @@
 // The extended accumulator's update: a frame paired, summed and booked whole, or refused with the state as it came.
 // Ported from norfair-rs, internal/motmetrics/accumulator.rs, which follows py-motmetrics (NOTICE).
 use frame::Booked;
+use pairing::Pairing;
 use rows::ExtendedMOTAccumulator;
 ghost use mathlib.Core.Path.{_≡_};
 ghost use Prim.Native.Nat.{_≤_};
-ghost use Rattle.extended.specs.Update.{frameAfter, updateOf};
+ghost use lib.ListN.{length};
+ghost use Rattle.extended.specs.Update.{refusedAt, Lie, bookedWith, frameAfter, updateOf};
+
+// Beside a refusal the state is the one that came.
+fn refused(number: u32, s: ExtendedMOTAccumulator) -> Booked
+    ensures { λ r. ⌜ r ≡ refusedAt number s ⌝ }
+{
+    Booked {
+        number: number,
+        state: s,
+    }
+}
+
+// A frame whose pairing is there.
+fn book(s: ExtendedMOTAccumulator, gt_ids: &[i32], pred_ids: &[i32], p: Pairing) -> Booked
+    requires { ⌜ s .used ≤ 256 ⌝ }
+    requires { ⌜ Lie (length (now «gt_ids»)) (length (now «pred_ids»)) p ⌝ }
+    ensures { λ r. ⌜ r ≡ bookedWith s (now («gt_ids» .entry)) (now («pred_ids» .entry)) p ⌝ }
+{
+    let pair_rows = p.pair_rows;
+    let pair_cols = p.pair_cols;
+    let left_rows = p.left_rows;
+    frame::book_frame(
+        s,
+        gt_ids,
+        pred_ids,
+        &pair_rows,
+        &pair_cols,
+        &left_rows,
+        p.pairs,
+        p.lefts,
+        p.extra,
+        p.distance,
+    )
+}
 
 // The update of a state that is sound already: nothing of its table is tested again. Of soundness it needs the used count alone.
 pub fn update_sound(
@@ -23,26 +58,9 @@ pub fn update_sound(
     let w = pred_ids.len();
     let p = pairing::pair(h, gt_bboxes, w, pred_bboxes, threshold, total);
     if p.number != 0 {
-        return Booked {
-            number: p.number,
-            state: s,
-        };
+        return refused(p.number, s);
     }
-    let pair_rows = p.pair_rows;
-    let pair_cols = p.pair_cols;
-    let left_rows = p.left_rows;
-    frame::book_frame(
-        s,
-        gt_ids,
-        pred_ids,
-        &pair_rows,
-        &pair_cols,
-        &left_rows,
-        p.pairs,
-        p.lefts,
-        p.extra,
-        p.distance,
-    )
+    book(s, gt_ids, pred_ids, p)
 }
 
 // The update of any state by any frame: the lowest number that applies, and the state.
@@ -57,10 +75,7 @@ pub fn update(
     ensures { λ r. ⌜ r ≡ updateOf s (now («gt_ids» .entry)) (now («gt_bboxes» .entry)) (now («pred_ids» .entry)) (now («pred_bboxes» .entry)) threshold ⌝ }
 {
     if !frame::sound(s) {
-        return Booked {
-            number: 1,
-            state: s,
-        };
+        return refused(1, s);
     }
     update_sound(s, gt_ids, gt_bboxes, pred_ids, pred_bboxes, threshold)
 }

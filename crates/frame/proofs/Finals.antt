@@ -4,7 +4,7 @@ use mathlib.Core.Path.{_≡_, refl, sym, ap, _∙_}
 use mathlib.Core.Bool.{Bool, true, false, cond, _||_}
 use Prim.Native.Nat.{ℕ, zero, suc, _≤_, _+_}
 use native.Mathlib.Omega.{arith}
-use borrow.Author.Tests.{lt-ltb, le-ltb}
+use borrow.Author.Tests.{lt-ltb, le-ltb, eq-eqb}
 use lib.Dec.{ltb, eqb}
 use lib.IntN.{ℤ}
 use lib.Ieee.{Float}
@@ -80,26 +80,30 @@ number-is s rows pairs lefts extra objects d l h e =
     ∙ by-flags (t .state) (rows 0) f (tallyAfter rows f (take (s .used) (s .slots)) (pairs + lefts)) (t .switches) (g .0) (g .1) room (t .full) (t .over)
     (trial-agrees rows f s l h e (pairs + lefts))
 
--- ---- an accepted frame leaves the slots that the unbounded booking has
+-- ---- an accepted frame leaves the slots, and counts the switches, that the unbounded booking has
 abbrev flagged : Bool → Bool → Bool → ℕ
 flagged full over room = cond full 5 (cond over 7 (cond room 0 7))
 
-module _ (s t next : ExtendedMOTAccumulator) (n : ℕ) (u : Tally) (e : take (next .used) (next .slots) ≡ take (t .used) (t .slots)) where
-  accepted : (full over room : Bool) → Agrees full over t n u → flagged full over room ≡ 0
-      → let r = cond (eqb (flagged full over room) 0) next s in take (r .used) (r .slots) ≡ u .slots
-  accepted true over room a z = absurd (omega arith)
-  accepted false true room a z = absurd (omega arith)
-  accepted false false false a z = absurd (omega arith)
-  accepted false false true a z = e ∙ sym (a .0)
+none-up : (t : ExtendedMOTAccumulator) (n : ℕ) (u : Tally) (full over room : Bool) → Agrees full over t n u → flagged full over room ≡ 0 → Agrees false false t n u
+none-up t n u true over room a z = absurd (omega arith)
+none-up t n u false true room a z = absurd (omega arith)
+none-up t n u false false false a z = absurd (omega arith)
+none-up t n u false false true a z = a
 
-pub table-is : (s : ExtendedMOTAccumulator) (rows : ℕ → Row) (pairs lefts extra objects : ℕ) (d : Float) → length (s .slots) ≡ 256 → s .used ≤ 256
-    → allFit (take (s .used) (s .slots)) ≡ true
-    → let r = frameOf s rows pairs lefts extra objects d in
-    r .number ≡ 0 → take (r .state .used) (r .state .slots) ≡ finalTally s rows (pairs + lefts) .slots
-unfolding frameOf closed raisedBy
-table-is s rows pairs lefts extra objects d l h e z =
-    let f = nextFrame (s .«frame_id») in
-    let t = trialAfter rows f s (pairs + lefts) in
-    let by = sharesOf pairs lefts extra (t .switches) objects in
-    accepted s (t .state) (raisedBy (t .state) by d) (t .switches) (tallyAfter rows f (take (s .used) (s .slots)) (pairs + lefts)) refl (t .full) (t .over)
-    (roomForAll (t .state) by) (trial-agrees rows f s l h e (pairs + lefts)) z
+module _ (s : ExtendedMOTAccumulator) (rows : ℕ → Row) (pairs lefts extra objects : ℕ) (d : Float) (l : length (s .slots) ≡ 256) (h : s .used ≤ 256)
+    (e : allFit (take (s .used) (s .slots)) ≡ true) (z : frameOf s rows pairs lefts extra objects d .number ≡ 0) where
+  abbrev trial : Trial
+  trial = trialAfter rows (nextFrame (s .«frame_id»)) s (pairs + lefts)
+
+  agreed : Agrees false false (trial .state) (trial .switches) (finalTally s rows (pairs + lefts))
+  unfolding frameOf closed
+  agreed =
+      none-up (trial .state) (trial .switches) (finalTally s rows (pairs + lefts)) (trial .full) (trial .over)
+      (roomForAll (trial .state) (sharesOf pairs lefts extra (trial .switches) objects)) (trial-agrees rows (nextFrame (s .«frame_id»)) s l h e (pairs + lefts)) z
+
+  pub table-is : let r = frameOf s rows pairs lefts extra objects d in take (r .state .used) (r .state .slots) ≡ finalTally s rows (pairs + lefts) .slots
+  unfolding frameOf closed raisedBy
+  table-is = rw (eq-eqb _ 0 z) (sym (agreed .0))
+
+  pub switches-are : trial .switches ≡ finalTally s rows (pairs + lefts) .switches
+  switches-are = agreed .2

@@ -2,5 +2,8 @@ pub mod Totals
 pub mod Fitting
 pub mod Agreement
 pub mod Finals
+pub mod Everywhere
 pub mod Soundness
+pub mod Kept
+pub mod Machine
 pub mod Examples

@@ -34,15 +34,10 @@ use Rattle.frame.specs.declared.Shares.{Shares}
 use Rattle.frame.specs.Sound.{SoundState}
 use Rattle.frame.specs.Frame.{totalsSound, soundState, nextFrame, sharesOf, roomForAll, raisedBy, trialNo, closed, frameOf}
 use Rattle.frame.proofs.Finals.{trial-good}
+use Rattle.frame.proofs.Everywhere.{every-put, every-more}
 
 -- ---- one slot put at a place
 module _ (slots : List Slot) (l : length slots ≡ 256) (k : ℕ) (x : Slot) (p : k < 256) where
-  by-place : (P : Slot → Type 0) (i : ℕ) → (b : Bool) → eqb i k ≡ b → P x → ((i ≡ k → ⊥) → P (getD slots i noSlot)) → P (getD (set slots k x) i noSlot)
-  by-place P i true e at off =
-      let q = eqb-true i k e in
-      subst (λ (j : ℕ). P (getD (set slots k x) j noSlot)) (sym q) (subst P (sym (getD-set-same slots k x noSlot (omega arith))) at)
-  by-place P i false e at off = subst P (sym (getD-set-other slots k i x noSlot (eqb-false i k e))) (off (eqb-false i k e))
-
   -- in place of one with the same id
   same-id : idOf x ≡ idOf (getD slots k noSlot) → (i : ℕ) → idOf (getD (set slots k x) i noSlot) ≡ idOf (getD slots i noSlot)
   same-id e i = by-place-id (eqb i k) refl where
@@ -58,7 +53,7 @@ module _ (slots : List Slot) (l : length slots ≡ 256) (k : ℕ) (x : Slot) (p 
       record {
         within = s .within;
         once = λ i j a b q. s .once i j a b (sym (same-id e i) ∙ (q ∙ same-id e j));
-        counts = λ i h. by-place (λ (y : Slot). NotNegative (y .lifecycle)) i (eqb i k) refl n (λ q. s .counts i h);
+        counts = every-put (λ (y : Slot). NotNegative (y .lifecycle)) slots l k x p used n (s .counts);
       }
 
   -- after the used ones, with an id that none of them has
@@ -67,7 +62,7 @@ module _ (slots : List Slot) (l : length slots ≡ 256) (k : ℕ) (x : Slot) (p 
       record {
         within = omega arith;
         once = λ i j a b q. once i j a b (eqb j k) refl q;
-        counts = λ i h. by-place (λ (y : Slot). NotNegative (y .lifecycle)) i (eqb i k) refl n (λ q. s .counts i (omega arith));
+        counts = every-more (λ (y : Slot). NotNegative (y .lifecycle)) slots l k x p n (s .counts);
       }
     where
       off : (i : ℕ) → i < k → getD (set slots k x) i noSlot ≡ getD slots i noSlot

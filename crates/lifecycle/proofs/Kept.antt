@@ -1,7 +1,7 @@
 -- What an update keeps: the id, sound counts, and tracked at most detected where it was so. Assumes nothing.
 use mathlib.Core.Path.{_≡_, refl, ap}
 use mathlib.Core.Bool.{Bool, true, _&&_}
-use Prim.Native.Nat.{ℕ, _≤_, _+_}
+use Prim.Native.Nat.{_+_}
 use native.Mathlib.Omega.{arith}
 use lib.IntN.{ℤ, pos, _+ℤ_}
 use lib.Signed.{nonNeg}
@@ -10,6 +10,7 @@ use Rattle.counts.proofs.Sums.{stays-above}
 use Rattle.counts.proofs.Tests.{all-three}
 use Rattle.lifecycle.specs.declared.TrackLifecycle.{TrackLifecycle}
 use Rattle.lifecycle.specs.Lifecycle.{fresh, fragments, soundCounts, matchedAfter, missedAfter}
+use Rattle.lifecycle.specs.Tracked.{Within}
 
 module _ (t : TrackLifecycle) (f : ℤ) where
   pub match-id : matchedAfter t f .«gt_id» ≡ t .«gt_id»
@@ -43,13 +44,6 @@ unfolding soundCounts
 fresh-sound id f = refl
 
 -- ---- tracked in no more frames than it was there
-pub record Within (t : TrackLifecycle) : Type 0 where
-  pub tracked : ℕ
-  pub detected : ℕ
-  pub tracked-is : t .«tracked_frames» ≡ pos tracked
-  pub detected-is : t .«detected_frames» ≡ pos detected
-  pub no-more : tracked ≤ detected
-
 pub fresh-within : (id f : ℤ) → Within (fresh id f)
 fresh-within id f = record { tracked = 0; detected = 0; tracked-is = refl; detected-is = refl; no-more = omega arith }
 

@@ -5,7 +5,6 @@ use mathlib.Core.List.{List}
 use Prim.Native.Nat.{ℕ, _+_, _≤_}
 use lib.Dec.{ltb}
 use lib.ListN.{length, take, getD}
-use lib.Ieee.{Float}
 use Rattle.lines.specs.declared.input.Reader.{Reader}
 use Rattle.lines.specs.declared.output.Writer.{Writer}
 
@@ -30,8 +29,8 @@ pub record Onward (r q : Reader) : Type 0 where
   pub ends : r .over ≡ true → q .over ≡ true
   pub stays : Within r → Within q
 
--- n counts floats at the start of xs. The second part follows from the first; with both a caller's `&xs[..n]` needs no proof file
-abbrev pub Front : ℕ → List Float → Type 0
+-- n counts places at the start of xs. The second part follows from the first; with both a caller's `&xs[..n]` needs no proof file
+abbrev pub Front : {A : Type 0} → ℕ → List A → Type 0
 Front n xs = (n ≤ length xs) × (n ≡ length (take n xs))
 
 -- where the next byte goes: a full buffer is sent, and begins anew

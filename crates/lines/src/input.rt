@@ -285,6 +285,40 @@ fn floats(buf: &mut [u8; 65536], r: Reader, run: &mut [f64], n: usize) -> Reader
     q
 }
 
+// A run of whole numbers, at the start of run; a fault where it is too long for that.
+pub fn wholes(buf: &mut [u8; 65536], r: Reader, run: &mut [i32]) -> ReadRun
+    ensures { λ x. ⌜ Onward r (x .reader) × Front (x .len) (now (run .exit)) ⌝ }
+    ensures { λ x. ⌜ length (now (run .exit)) ≡ length (now (run .entry)) ⌝ }
+{
+    let c = count(buf, r);
+    let q = c.reader;
+    if c.value > run.len() as u64 {
+        return ReadRun {
+            len: 0,
+            reader: marked(q, true),
+        };
+    }
+    let n = c.value as usize;
+    let reader = whole_words(buf, q, run, n);
+    ReadRun { len: n, reader }
+}
+
+fn whole_words(buf: &mut [u8; 65536], r: Reader, run: &mut [i32], n: usize) -> Reader
+    requires { ⌜ n ≤ length (now run) ⌝ }
+    ensures { λ q. ⌜ Onward r q × (length (now (run .exit)) ≡ length (now (run .entry))) ⌝ }
+{
+    let mut q = r;
+    let mut i: usize = 0;
+    while i < n {
+        let x = whole(buf, q);
+        let value = x.value;
+        run[i] = value;
+        q = x.reader;
+        i += 1;
+    }
+    q
+}
+
 // Past the line's end; a fault where words are left.
 pub fn end_line(buf: &mut [u8; 65536], r: Reader) -> Reader
     ensures { λ q. ⌜ Onward r q ⌝ }

@@ -1,3 +1,4 @@
 pub mod Turns
 pub mod Fresh
 pub mod Meaning
+pub mod Lasts

@@ -1,2 +1,3 @@
 pub mod Slots
 pub mod Sound
+pub mod Every

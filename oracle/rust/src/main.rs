@@ -1,6 +1,8 @@
 //! The Rust's program: a request a line in, the answer of norfair-rs's own code a line out.
 
 mod boxes;
+mod events;
+mod extended;
 mod floats;
 mod search;
 mod words;
@@ -14,7 +16,7 @@ use words::Request;
 type Answer = fn(&mut Request) -> Option<String>;
 
 /// A module of document 01 is a file; its requests are added here.
-const ANSWERS: &[&[(&str, Answer)]] = &[floats::ANSWERS, boxes::ANSWERS, search::ANSWERS];
+const ANSWERS: &[&[(&str, Answer)]] = &[floats::ANSWERS, boxes::ANSWERS, search::ANSWERS, extended::ANSWERS, events::ANSWERS];
 
 fn main() {
     // a panic is an answer, and a difference: the Rust is asked only what it can answer
@@ -35,7 +37,7 @@ fn main() {
 
 fn said(table: &HashMap<&str, Answer>, line: &str) -> String {
     let mut request = Request::new(line);
-    let Some(answer) = request.word().and_then(|name| table.get(name)) else {
+    let Some(answer) = request.name().and_then(|name| table.get(name)) else {
         return "?".to_string();
     };
     match catch_unwind(AssertUnwindSafe(|| answer(&mut request))) {

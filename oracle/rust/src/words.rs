@@ -4,15 +4,33 @@ use std::fmt::Write;
 use std::str::Split;
 
 const LONGEST_RUN: usize = 8192;
+const MOST_IDS: usize = 128;
 const QUIET: u64 = 0x0008_0000_0000_0000;
 
 pub struct Request<'a> {
     words: Split<'a, char>,
+    refused: Vec<u32>,
 }
 
 impl<'a> Request<'a> {
     pub fn new(line: &'a str) -> Self {
-        Self { words: line.split(' ') }
+        Self { words: line.split(' '), refused: Vec::new() }
+    }
+
+    /// The numbers that stand before a request with frames, `refused N NUMBER ..`: such a frame is not handed over.
+    pub fn name(&mut self) -> Option<&'a str> {
+        let name = self.word()?;
+        if name != "refused" {
+            return Some(name);
+        }
+        let frames = self.count()?;
+        self.refused = (0..frames).map(|_| self.word()?.parse().ok()).collect::<Option<_>>()?;
+        self.word()
+    }
+
+    /// The second program's number for a frame.
+    pub fn refused(&self, frame: usize) -> u32 {
+        self.refused.get(frame).copied().unwrap_or(0)
     }
 
     pub fn word(&mut self) -> Option<&'a str> {
@@ -39,6 +57,31 @@ impl<'a> Request<'a> {
         let word = self.word()?;
         let digits = word.bytes().all(|b| b.is_ascii_digit());
         if digits { word.parse().ok() } else { None }
+    }
+
+    pub fn whole(&mut self) -> Option<i32> {
+        let word = self.word()?;
+        let digits = word.strip_prefix('-').unwrap_or(word);
+        let decimal = !digits.is_empty() && digits.bytes().all(|b| b.is_ascii_digit());
+        if decimal { word.parse().ok() } else { None }
+    }
+
+    pub fn flag(&mut self) -> Option<bool> {
+        match self.count()? {
+            0 => Some(false),
+            1 => Some(true),
+            _ => None,
+        }
+    }
+
+    /// `1 ID`, or `0` for none.
+    pub fn partner(&mut self) -> Option<Option<i32>> {
+        Some(if self.flag()? { Some(self.whole()?) } else { None })
+    }
+
+    pub fn ids(&mut self) -> Option<Vec<i32>> {
+        let count = self.count().filter(|&n| n <= MOST_IDS)?;
+        (0..count).map(|_| self.whole()).collect()
     }
 
     pub fn run(&mut self) -> Option<Vec<f64>> {

@@ -9,10 +9,14 @@ use Rattle.extended.proofs.update.Tie as tie
 sound-requires : tie.Need-sound-requires
 sound-requires c κs = search needs
 
+refused-requires : tie.Need-refused-requires
+refused-requires c κs = search needs
+
 returns : tie.Need-returns
 returns c =
-    let a = c .before .before .before .before .args in
-    ways.unsound (a .s) (a .gt-ids .now) (a .gt-bboxes .now) (a .pred-ids .now) (a .pred-bboxes .now) (a .threshold) (sym (c .before .sound .ensures) ∙ not-true _ (c .if1 .taken))
+    let b = c .before in
+    let a = b .before .before .before .before .args in
+    c .refused .ensures ∙ ways.unsound (a .s) (a .gt-ids .now) (a .gt-bboxes .now) (a .pred-ids .now) (a .pred-bboxes .now) (a .threshold) (sym (b .before .sound .ensures) ∙ not-true _ (b .if1 .taken))
 
 update-sound-requires : tie.Need-update-sound-requires
 update-sound-requires c κs = ways.sound-used _ (sym (c .before .sound .ensures) ∙ not-false _ (c .if1 .left))
@@ -23,4 +27,4 @@ returns-2 c =
     c .update-sound .ensures ∙ ways.taken (a .s) (a .gt-ids .now) (a .gt-bboxes .now) (a .pred-ids .now) (a .pred-bboxes .now) (a .threshold) (sym (c .before .before .sound .ensures) ∙ not-false _ (c .before .if1 .left))
 
 pub update-spec : {M : Type 1} → statement M
-update-spec = tie.close (tie.spec sound-requires returns update-sound-requires returns-2)
+update-spec = tie.close (tie.spec sound-requires refused-requires returns update-sound-requires returns-2)

@@ -2,6 +2,7 @@
 
 pub mod internal;
 pub mod metrics;
+pub mod opened;
 
 /// The one case that `metrics/evaluation.rs` names; the Rust's own needs the crate thiserror.
 #[derive(Debug)]
