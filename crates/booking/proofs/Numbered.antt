@@ -27,7 +27,7 @@ module _ {A : Type 0} where
   pub each-length : (k : ℕ) (f : ℕ → A) → length (eachOf k f) ≡ k
   each-length k f = gather-length (λ i. true) f k ∙ count-all k (λ i. true) (λ i h. refl)
 
-  each-same : (k : ℕ) (f g : ℕ → A) → ((i : ℕ) → i < k → f i ≡ g i) → eachOf k f ≡ eachOf k g
+  pub each-same : (k : ℕ) (f g : ℕ → A) → ((i : ℕ) → i < k → f i ≡ g i) → eachOf k f ≡ eachOf k g
   each-same zero f g h = each-none f ∙ sym (each-none g)
   each-same (suc k) f g h =
       let a = each-same k f g (λ i l. h i (omega arith)) in
@@ -41,7 +41,7 @@ module _ {A : Type 0} where
       rw (add-suc a b, each-more (a + b) f, each-split a b f, each-more b (λ i. f (a + i))) (append-assoc (eachOf a f) (eachOf b (λ i. f (a + i))) (f (a + b) ∷ []))
 
   -- what stands in a list
-  each-of : (l : List ℕ) (g : ℕ → A) → eachOf (length l) (λ i. g (getD l i 0)) ≡ map g l
+  pub each-of : (l : List ℕ) (g : ℕ → A) → eachOf (length l) (λ i. g (getD l i 0)) ≡ map g l
   each-of l g = sym (gather-map g (λ i. true) (λ i. getD l i 0) (length l)) ∙ ap (map g) (gather-all l)
 
   module _ (M R C : ℕ → A) (used n w : ℕ) (L K : List ℕ) (eL : used + length L ≡ n) (eK : used + length K ≡ w) where

@@ -1,0 +1,89 @@
+-- A refused frame changes nothing, and a sound state stays sound: so the inner layer may run over what an update left. Assumes nothing.
+use mathlib.Core.Path.{_≡_, refl, sym, ap, _∙_}
+use mathlib.Core.Bool.{Bool, true, false, cond, _&&_}
+use mathlib.Core.List.{List}
+use Prim.Native.Nat.{ℕ, zero, suc, _+_}
+use native.Mathlib.Omega.{arith}
+use borrow.Author.Tests.{ltb-false, le-leb, ne-eqb}
+use lib.Dec.{ltb, eqb}
+use lib.IntN.{ℤ}
+use lib.ListN.{length}
+use lib.Ieee.{Float}
+use Rattle.counts.proofs.Tests.{both}
+use Rattle.events.specs.declared.Event.{Event}
+use Rattle.events.specs.declared.Log.{Log}
+use Rattle.events.specs.Events.{logSound}
+use Rattle.partners.specs.Partners.{truthsSound}
+use Rattle.partners.proofs.Meaning.{booked-sound}
+use Rattle.greedy.specs.declared.Pairing.{Pairing}
+use Rattle.greedy_pairs.specs.Pairs.{byDistance}
+use Rattle.booking.specs.Booking.{eventsOf, logAfter}
+use Rattle.motmetrics.specs.declared.MOTAccumulator.{MOTAccumulator}
+use Rattle.motmetrics.specs.State.{soundState}
+use Rattle.motmetrics_update.specs.declared.Updated.{Updated}
+use Rattle.motmetrics_update.specs.Update.{refusedAt, closedAt, shapeNo, matchedBy, bookNo, bookOf, frameAfter, updateOf}
+
+-- ---- REFUSED, NOTHING CHANGED
+closed-keeps : (n : ℕ) (s next : MOTAccumulator) → (n ≡ 0 → ⊥) → closedAt n s next .state ≡ s
+closed-keeps n s next h = rw (ne-eqb n 0 h) refl
+
+module _ (s : MOTAccumulator) (frame : ℤ) (objects hypotheses : List ℤ) (distances : List Float) where
+  book-keeps : (p : Pairing) → (bookOf s frame objects hypotheses distances p .number ≡ 0 → ⊥) → bookOf s frame objects hypotheses distances p .state ≡ s
+  unfolding bookOf
+  book-keeps p h = closed-keeps _ s _ h
+
+  pick-keeps : (b : Bool) (x y : Updated) → ((x .number ≡ 0 → ⊥) → x .state ≡ s) → y .state ≡ s → (cond b x y .number ≡ 0 → ⊥) → cond b x y .state ≡ s
+  pick-keeps true x y f g h = f h
+  pick-keeps false x y f g h = g
+
+  frame-keeps : (frameAfter s frame objects hypotheses distances .number ≡ 0 → ⊥) → frameAfter s frame objects hypotheses distances .state ≡ s
+  unfolding frameAfter
+  frame-keeps h =
+      let number = shapeNo (length objects) (length hypotheses) (length distances) in
+      let p = byDistance distances (length hypotheses) in
+      pick-keeps (eqb number 0) (bookOf s frame objects hypotheses distances p) (refusedAt number s) (book-keeps p) refl h
+
+  pub refused-keeps : (updateOf s frame objects hypotheses distances .number ≡ 0 → ⊥) → updateOf s frame objects hypotheses distances .state ≡ s
+  unfolding updateOf
+  refused-keeps h = pick-keeps (soundState s) (frameAfter s frame objects hypotheses distances) (refusedAt 1 s) frame-keeps refl h
+
+-- ---- A SOUND STATE STAYS SOUND
+closed-sound : (n : ℕ) (s next : MOTAccumulator) → soundState s ≡ true → (n ≡ 0 → soundState next ≡ true) → soundState (closedAt n s next .state) ≡ true
+closed-sound zero s next a f = f refl
+closed-sound (suc n) s next a f = ap soundState (closed-keeps (suc n) s next (λ (e : suc n ≡ 0). omega arith)) ∙ a
+
+-- number 0 is given where the log has room
+has-room : (a b : Bool) → _≡_ {A = ℕ} (cond a 5 (cond b 6 0)) 0 → b ≡ false
+has-room true b e = absurd (omega arith)
+has-room false true e = absurd (omega arith)
+has-room false false e = refl
+
+log-sound : (l : Log) (es : List Event) → ltb 1024 (l .used + length es) ≡ false → logSound (logAfter l es) ≡ true
+unfolding logAfter
+log-sound l es e = le-leb (l .used + length es) 1024 (ltb-false 1024 (l .used + length es) e)
+
+module _ (s : MOTAccumulator) (frame : ℤ) (objects hypotheses : List ℤ) (distances : List Float) (a : soundState s ≡ true) where
+  book-sound : (p : Pairing) → soundState (bookOf s frame objects hypotheses distances p .state) ≡ true
+  unfolding bookOf soundState
+  book-sound p =
+      let b = matchedBy s objects hypotheses p in
+      let es = eventsOf frame objects hypotheses distances p (b .switched) in
+      let h = both (logSound (s .log)) (truthsSound (s .«last_match»)) a in
+      closed-sound (bookNo s b es) s (record { log = logAfter (s .log) es; «last_match» = b .truths }) a
+      (λ (z : bookNo s b es ≡ 0).
+      rw (log-sound (s .log) es (has-room (b .full) (ltb 1024 (s .log .used + length es)) z), booked-sound (s .«last_match») _ (h .1)) refl)
+
+  pick-sound : (b : Bool) (x y : Updated) → soundState (x .state) ≡ true → soundState (y .state) ≡ true → soundState (cond b x y .state) ≡ true
+  pick-sound true x y p q = p
+  pick-sound false x y p q = q
+
+  frame-sound : soundState (frameAfter s frame objects hypotheses distances .state) ≡ true
+  unfolding frameAfter
+  frame-sound =
+      let number = shapeNo (length objects) (length hypotheses) (length distances) in
+      let p = byDistance distances (length hypotheses) in
+      pick-sound (eqb number 0) (bookOf s frame objects hypotheses distances p) (refusedAt number s) (book-sound p) a
+
+  pub sound-kept : soundState (updateOf s frame objects hypotheses distances .state) ≡ true
+  unfolding updateOf
+  sound-kept = pick-sound (soundState s) (frameAfter s frame objects hypotheses distances) (refusedAt 1 s) frame-sound a
