@@ -1,5 +1,5 @@
 -- The numbers 2, 3 and 4, by the ways that the code goes. Assumes nothing.
-use mathlib.Core.Path.{_≡_, refl, sym, ap, _∙_}
+use mathlib.Core.Path.{_≡_, refl, sym, ap, _∙_, subst}
 use mathlib.Core.Bool.{Bool, true, false, not, cond, _||_}
 use mathlib.Core.List.{List}
 use Prim.Native.Nat.{ℕ, zero, suc, _*_, _/_, _%_, _<_, _≤_}
@@ -39,19 +39,20 @@ sides gi g pi p e =
     let c = or-zero (fitNo gi g) _ (b .1) in
     (side gi g (a .0) (c .0), side pi p (b .0) (c .1))
 
--- the matrix of a frame in shape has room
+-- no frame in shape has a larger matrix
 pub room : (h w : ℕ) → h ≤ 64 → w ≤ 64 → h * w ≤ 4096
 room h w a b = let x = mul-le-mul-right w a in let y = mul-le-mul-left 64 b in omega arith
 
--- so that the distance matrix is refused for a bad box alone
+-- with room for it the distance matrix is refused for a bad box alone
 pub boxes-no : (gi : ℕ) (gt : List Float) (pi : ℕ) (pred : List Float) → Side gi (length gt) → Side pi (length pred)
-    → distanceMatrixNo gt pred 4096 ≡ cond (anyReadBad gt pred) 4 0
+    → (space : ℕ) → gi * pi ≤ space → distanceMatrixNo gt pred space ≡ cond (anyReadBad gt pred) 4 0
 unfolding distanceMatrixNo matrices.shapeNo roomNo
-boxes-no gi gt pi pred a b =
+boxes-no gi gt pi pred a b space r =
     let gf = a .few in
     let gb = a .boxes in
     let pf = b .few in
     let pb = b .boxes in
     let gs : length gt / 4 ≤ 64 = omega arith in
     let ps : length pred / 4 ≤ 64 = omega arith in
-    simp (le-ltb _ _ gs, le-ltb _ _ ps, eq-eqb _ _ (a .whole), eq-eqb _ _ (b .whole), le-ltb _ _ (room _ _ gs ps))
+    let q : length gt / 4 * (length pred / 4) ≤ space = subst (λ (x : ℕ). x ≤ space) (λ i. gb i * pb i) r in
+    simp (le-ltb _ _ gs, le-ltb _ _ ps, eq-eqb _ _ (a .whole), eq-eqb _ _ (b .whole), le-ltb _ _ q)

@@ -156,7 +156,33 @@ fn paired(m: &[f64], h: usize, w: usize, max_cost: f64, total: f64) -> Pairing
     }
 }
 
+// The pairing of a frame in shape, with its distances in a lent run that has room for them.
+fn pair_in(
+    gt_ids: usize,
+    gt_bboxes: &[f64],
+    pred_ids: usize,
+    pred_bboxes: &[f64],
+    threshold: f64,
+    total: f64,
+    m: &mut [f64],
+) -> Pairing
+    requires { ⌜ shapeNo «gt_ids» (length (now «gt_bboxes»)) «pred_ids» (length (now «pred_bboxes»)) ≡ 0 ⌝ }
+    requires { ⌜ «gt_ids» * «pred_ids» ≤ length (now m) ⌝ }
+    ensures { λ r. ⌜ r ≡ pairingOf «gt_ids» (now («gt_bboxes» .entry)) «pred_ids» (now («pred_bboxes» .entry)) threshold total ⌝ }
+{
+    let boxes = matrix::compute_iou_distance_matrix(gt_bboxes, pred_bboxes, m);
+    if boxes != 0 {
+        return no_pairs(boxes, 0, 0.0);
+    }
+    if gt_ids == 0 {
+        return no_pairs(0, pred_ids, total);
+    }
+    let n = gt_ids * pred_ids;
+    paired(&m[..n], gt_ids, pred_ids, threshold, total)
+}
+
 // The pairing of a frame of so many ids and these boxes, or its number. The total is the sum of distances so far.
+// (Three sizes of matrix: to clear 4,096 places costs more than all else of a small frame.)
 pub fn pair(
     gt_ids: usize,
     gt_bboxes: &[f64],
@@ -171,14 +197,39 @@ pub fn pair(
     if shape != 0 {
         return no_pairs(shape, 0, 0.0);
     }
-    let mut m = [0.0f64; 4096];
-    let boxes = matrix::compute_iou_distance_matrix(gt_bboxes, pred_bboxes, &mut m);
-    if boxes != 0 {
-        return no_pairs(boxes, 0, 0.0);
-    }
-    if gt_ids == 0 {
-        return no_pairs(0, pred_ids, total);
-    }
     let n = gt_ids * pred_ids;
-    paired(&m[..n], gt_ids, pred_ids, threshold, total)
+    if n <= 64 {
+        let mut small = [0.0f64; 64];
+        return pair_in(
+            gt_ids,
+            gt_bboxes,
+            pred_ids,
+            pred_bboxes,
+            threshold,
+            total,
+            &mut small,
+        );
+    }
+    if n <= 1024 {
+        let mut middle = [0.0f64; 1024];
+        return pair_in(
+            gt_ids,
+            gt_bboxes,
+            pred_ids,
+            pred_bboxes,
+            threshold,
+            total,
+            &mut middle,
+        );
+    }
+    let mut large = [0.0f64; 4096];
+    pair_in(
+        gt_ids,
+        gt_bboxes,
+        pred_ids,
+        pred_bboxes,
+        threshold,
+        total,
+        &mut large,
+    )
 }
