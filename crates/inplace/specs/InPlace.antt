@@ -7,6 +7,7 @@ use lib.Dec.{eqb}
 use lib.IntN.{ℤ, pos, _+ℤ_}
 use lib.ListN.{getD}
 use lib.Ieee.{Float}
+use Rattle.floats.specs.Float.{zero64}
 use Rattle.columns.specs.Columns.{cellsOf, cellsAt, put, slotsOf}
 use Rattle.rows.specs.declared.ExtendedMOTAccumulator.{ExtendedMOTAccumulator}
 use Rattle.rows.specs.declared.Row.{Row}
@@ -32,6 +33,20 @@ stateOf run t =
       «num_switches» = t .«num_switches»;
       «num_objects» = t .«num_objects»;
       «total_distance» = t .«total_distance»;
+    }
+
+-- with a run of zeros these stand for a new state (`new-is`)
+abbrev pub newTotals : Totals
+newTotals =
+    record {
+      used = 0;
+      «frame_id» = pos 0;
+      «num_matches» = pos 0;
+      «num_misses» = pos 0;
+      «num_false_positives» = pos 0;
+      «num_switches» = pos 0;
+      «num_objects» = pos 0;
+      «total_distance» = zero64;
     }
 
 -- ---- the rows

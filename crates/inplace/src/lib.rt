@@ -8,7 +8,7 @@ ghost use Prim.Native.Nat.{ℕ, _+_, _<_, _≤_};
 ghost use lib.ListN.{length, getD};
 ghost use Rattle.rows.specs.Rows.{Lies, rowAt};
 ghost use Rattle.frame.specs.Frame.{Few, roomForAll};
-ghost use Rattle.inplace.specs.InPlace.{stateOf, Tried, undone, raisedTotals, numberOf, Framed};
+ghost use Rattle.inplace.specs.InPlace.{newTotals, stateOf, Tried, undone, raisedTotals, numberOf, Framed};
 
 // What a state holds beside its table.
 pub struct Totals {
@@ -20,6 +20,24 @@ pub struct Totals {
     pub num_switches: i32,
     pub num_objects: i32,
     pub total_distance: f64,
+}
+
+impl Totals {
+    // Frame 0, and nothing counted: with a table of zeros a new state.
+    pub fn new() -> Self
+        ensures { λ r. ⌜ r ≡ newTotals ⌝ }
+    {
+        Self {
+            used: 0,
+            frame_id: 0,
+            num_matches: 0,
+            num_misses: 0,
+            num_false_positives: 0,
+            num_switches: 0,
+            num_objects: 0,
+            total_distance: 0.0,
+        }
+    }
 }
 
 // What came of a trial, beside the table: full where a new id found no place, over where a count would have passed.
