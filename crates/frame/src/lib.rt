@@ -25,7 +25,7 @@ pub struct Booked {
 }
 
 // The number of the frame to come. At the last number it stays: such a frame is refused in the end.
-fn next_frame(frame_id: i32) -> i32
+pub fn next_frame(frame_id: i32) -> i32
     ensures { λ r. ⌜ r ≡ nextFrame «frame_id» ⌝ }
 {
     if counts::room_for(frame_id, 1) {
@@ -35,7 +35,7 @@ fn next_frame(frame_id: i32) -> i32
     }
 }
 
-fn all_three(a: bool, b: bool, c: bool) -> bool
+pub fn all_three(a: bool, b: bool, c: bool) -> bool
     ensures { λ r. ⌜ r ≡ (a && (b && c)) ⌝ }
 {
     if !a {
@@ -47,7 +47,7 @@ fn all_three(a: bool, b: bool, c: bool) -> bool
     c
 }
 
-fn both(a: bool, b: bool) -> bool
+pub fn both(a: bool, b: bool) -> bool
     ensures { λ r. ⌜ r ≡ (a && b) ⌝ }
 {
     if a { b } else { false }

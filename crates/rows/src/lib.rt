@@ -73,7 +73,7 @@ pub struct Trial {
 }
 
 // The row that is booked as number k: matched rows in the order of the pairs, then missed rows.
-fn row_at(
+pub fn row_at(
     gt_ids: &[i32],
     pred_ids: &[i32],
     pair_rows: &[usize; 64],
@@ -102,13 +102,13 @@ fn row_at(
     }
 }
 
-fn either(a: bool, b: bool) -> bool
+pub fn either(a: bool, b: bool) -> bool
     ensures { λ r. ⌜ r ≡ (a || b) ⌝ }
 {
     if a { true } else { b }
 }
 
-fn spot_of(found: Lookup, used: usize) -> Spot
+pub fn spot_of(found: Lookup, used: usize) -> Spot
     ensures { λ r. ⌜ r ≡ spotOf found used ⌝ }
 {
     let Lookup::At(k) = found else {
@@ -133,7 +133,7 @@ fn spot_of(found: Lookup, used: usize) -> Spot
 }
 
 // What a row does, given where it is booked and the slot that stands there.
-fn book_at(spot: Spot, old: Slot, used: usize, row: Row, frame: i32) -> Step
+pub fn book_at(spot: Spot, old: Slot, used: usize, row: Row, frame: i32) -> Step
     requires { ⌜ used ≤ 256 ⌝ }
     ensures { λ r. ⌜ r ≡ stepOf spot old used row frame ⌝ }
 {
