@@ -1,6 +1,6 @@
 //! Module 3: updates of the extended accumulator, by the same frame again and again from a new state.
 
-use crate::{port, rounds::row};
+use crate::{port, port::Update, rounds::row};
 use norfair::internal::motmetrics::accumulator::ExtendedMOTAccumulator;
 use norfair::internal::scipy::optimize::linear_sum_assignment;
 use std::hint::black_box;
@@ -62,8 +62,12 @@ fn case(kind: &str, frame: &Frame) {
         state.total_distance
     };
     let side = frame.ids.len();
-    for (name, sound) in [("extended::update_sound", true), ("extended::update", false)] {
-        let port = || port::updates(&frame.ids, &frame.truth, black_box(&frame.predicted), THRESHOLD, TIMES, sound);
+    for (name, update) in [
+        ("extended_in_place::update_in_place", Update::InPlace),
+        ("extended::update_sound", Update::Sound),
+        ("extended::update", Update::Public),
+    ] {
+        let port = || port::updates(&frame.ids, &frame.truth, black_box(&frame.predicted), THRESHOLD, TIMES, update);
         assert_eq!(rust().to_bits(), port().to_bits());
         row(name, &format!("{side} a side, {kind}, {TIMES} frames"), &mut || { black_box(rust()); }, &mut || { black_box(port()); });
     }

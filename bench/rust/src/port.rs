@@ -27,6 +27,18 @@ extern "C" {
         distances_len: usize, times: u64,
     ) -> usize;
     fn bench_pair_by_distance(distances: *const f64, distances_len: usize, rows: usize, columns: usize) -> usize;
+    fn bench_update_in_place(
+        gt_ids: *const i32, gt_ids_len: usize, gt: *const f64, gt_len: usize, pred_ids: *const i32, pred_ids_len: usize,
+        pred: *const f64, pred_len: usize, threshold: f64, times: u64,
+    ) -> f64;
+}
+
+/// Which of the port's updates.
+#[derive(Clone, Copy)]
+pub enum Update {
+    Public,
+    Sound,
+    InPlace,
 }
 
 /// Places of a solver's answer: 5 counts, then 64 each of the pairs' rows, their columns, the rows left, the columns left.
@@ -54,8 +66,12 @@ pub fn linear_sum_assignment(cost: &[f64], rows: usize, cols: usize, max_cost: f
 }
 
 /// The extended accumulator's total distance after so many updates by one frame, truths and predictions with the same ids.
-pub fn updates(ids: &[i32], truth: &[f64], predicted: &[f64], threshold: f64, times: u64, sound: bool) -> f64 {
-    let call = if sound { bench_update_sound } else { bench_update };
+pub fn updates(ids: &[i32], truth: &[f64], predicted: &[f64], threshold: f64, times: u64, update: Update) -> f64 {
+    let call = match update {
+        Update::Public => bench_update,
+        Update::Sound => bench_update_sound,
+        Update::InPlace => bench_update_in_place,
+    };
     // SAFETY: as above
     unsafe {
         call(

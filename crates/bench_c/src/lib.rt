@@ -1,6 +1,7 @@
 // Updates for bench/run, made one after the other on this side of the border, where the state stays.
 mod mot;
 
+use inplace::Totals;
 use rows::ExtendedMOTAccumulator;
 
 // The public update by one frame so many times, from a new state; the total distance.
@@ -44,4 +45,33 @@ pub extern "C" fn bench_update_sound(
         left = left - 1;
     }
     s.total_distance
+}
+
+// The same by the inner update in a lent table.
+#[no_mangle]
+pub extern "C" fn bench_update_in_place(
+    gt_ids: &[i32],
+    gt_bboxes: &[f64],
+    pred_ids: &[i32],
+    pred_bboxes: &[f64],
+    threshold: f64,
+    times: u64,
+) -> f64 {
+    let mut run = [0i32; 2304];
+    let mut totals = Totals::new();
+    let mut left = times;
+    while left > 0 {
+        let c = extended_in_place::update_in_place(
+            &mut run,
+            totals,
+            gt_ids,
+            gt_bboxes,
+            pred_ids,
+            pred_bboxes,
+            threshold,
+        );
+        totals = c.totals;
+        left = left - 1;
+    }
+    totals.total_distance
 }
