@@ -18,7 +18,7 @@ use Rattle.solver.proofs.Lists.{Placed, solution-placed}
 use Rattle.pairing.specs.declared.Pairing.{Pairing}
 use Rattle.pairing.specs.Pairing.{shapeNo, pairingNo, noPairs, pairedOf, framePairs, pairingAt, pairingOf}
 use Rattle.pairing.proofs.Numbers.{Side, sides}
-use Rattle.pairing.proofs.Placed.{taken}
+use Rattle.lent_square.proofs.Taken.{taken}
 use Rattle.pairing.proofs.Ways.{accept}
 use Rattle.extended.specs.Update.{Lie}
 

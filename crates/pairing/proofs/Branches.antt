@@ -17,7 +17,7 @@ use Rattle.solver.proofs.Lists.{solution-alone, alone-at}
 use Rattle.pairing.specs.declared.Pairing.{Pairing}
 use Rattle.pairing.specs.Pairing.{shapeNo, pairingNo, sumOf, noPairs, pairsIn, pairedOf, framePairs, pairingOf}
 use Rattle.pairing.proofs.Numbers.{Side, sides}
-use Rattle.pairing.proofs.Placed.{taken}
+use Rattle.lent_square.proofs.Taken.{taken}
 use Rattle.pairing.proofs.Ways.{accept}
 
 -- no pair, so many rows left and predictions extra, and the total as it was
