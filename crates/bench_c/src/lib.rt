@@ -58,11 +58,13 @@ pub extern "C" fn bench_update_in_place(
     times: u64,
 ) -> f64 {
     let mut run = [0i32; 2304];
+    let mut square = [0.0f64; 4096];
     let mut totals = Totals::new();
     let mut left = times;
     while left > 0 {
         let c = extended_in_place::update_in_place(
             &mut run,
+            &mut square,
             totals,
             gt_ids,
             gt_bboxes,

@@ -1,12 +1,13 @@
 -- Where the lists of a frame's pairing lie: in the two runs of ids. Assumes nothing.
 use mathlib.Core.Path.{_≡_, refl, sym, ap, _∙_, subst}
+use mathlib.Core.Bool.{cond}
 use mathlib.Core.Logic.{⊎-elim}
 use mathlib.Core.List.{List}
 use Prim.Native.Nat.{ℕ, zero, suc, _*_, _/_, _<_, _≤_}
 use native.Mathlib.Nat.{not-suc-le-zero}
 use native.Mathlib.Omega.{arith}
 use borrow.Author.Tests.{eq-eqb, ne-eqb}
-use lib.ListN.{length}
+use lib.ListN.{length, getD}
 use lib.Ieee.{Float}
 use Rattle.square.proofs.Index.{eq-or-not}
 use Rattle.matrix.specs.Matrix.{matrixOf}
@@ -15,10 +16,9 @@ use Rattle.matrix.proofs.Laws.{length-matrix, or-zero}
 use Rattle.solver.specs.Solution.{solutionOf}
 use Rattle.solver.proofs.Lists.{Placed, solution-placed}
 use Rattle.pairing.specs.declared.Pairing.{Pairing}
-use Rattle.shape.specs.Shape.{shapeNo}
-use Rattle.pairing.specs.Pairing.{pairingNo, noPairs, pairedOf, framePairs, pairingAt, pairingOf}
-use Rattle.shape.proofs.Sides.{sides}
-use Rattle.pairing.proofs.Placed.{taken}
+use Rattle.pairing.specs.Pairing.{shapeNo, pairingNo, noPairs, pairedOf, framePairs, pairingAt, pairingOf}
+use Rattle.pairing.proofs.Numbers.{Side, sides}
+use Rattle.lent_square.proofs.Taken.{taken}
 use Rattle.pairing.proofs.Ways.{accept}
 use Rattle.extended.specs.Update.{Lie}
 

@@ -148,7 +148,7 @@ fn unmatched(marks: &[bool; 64], n: usize) -> Indices
 }
 
 // What of a matching passes max_cost, and what is left.
-fn filtered(
+pub fn filtered(
     cost: &[f64],
     rows: usize,
     cols: usize,

@@ -1,7 +1,8 @@
 -- Document 01's branches of a frame that is not refused: no truth, and no predictions. Assumes nothing.
 use mathlib.Core.Path.{_≡_, refl, sym, ap, _∙_, subst}
+use mathlib.Core.Bool.{cond}
 use mathlib.Core.List.{List}
-use Prim.Native.Nat.{ℕ, _*_, _<_}
+use Prim.Native.Nat.{ℕ, zero, suc, _*_, _/_, _<_, _≤_}
 use native.Mathlib.Omega.{arith}
 use borrow.Author.Tests.{eq-eqb, ne-eqb}
 use lib.ListN.{length, getD}
@@ -14,10 +15,9 @@ use Rattle.optimize.specs.Answer.{rowsAlone}
 use Rattle.solver.specs.Solution.{solutionOf}
 use Rattle.solver.proofs.Lists.{solution-alone, alone-at}
 use Rattle.pairing.specs.declared.Pairing.{Pairing}
-use Rattle.shape.specs.Shape.{shapeNo}
-use Rattle.pairing.specs.Pairing.{pairingNo, sumOf, noPairs, pairsIn, pairedOf, framePairs, pairingOf}
-use Rattle.shape.proofs.Sides.{Side, sides}
-use Rattle.pairing.proofs.Placed.{taken}
+use Rattle.pairing.specs.Pairing.{shapeNo, pairingNo, sumOf, noPairs, pairsIn, pairedOf, framePairs, pairingOf}
+use Rattle.pairing.proofs.Numbers.{Side, sides}
+use Rattle.lent_square.proofs.Taken.{taken}
 use Rattle.pairing.proofs.Ways.{accept}
 
 -- no pair, so many rows left and predictions extra, and the total as it was

@@ -1,24 +1,17 @@
 -- The pairing that the solver's answer gives, and where its lists lie. Assumes nothing.
 use mathlib.Core.Path.{_≡_, refl, sym, ap, _∙_, subst}
-use mathlib.Core.Bool.{_||_, _&&_, cond}
 use mathlib.Core.List.{List}
 use Prim.Native.Nat.{ℕ, _+_, _*_, _<_, _≤_}
 use native.Mathlib.Omega.{arith}
-use borrow.Author.Tests.{le-ltb, eq-eqb, ne-eqb}
 use lib.ListN.{length, getD}
 use lib.Ieee.{Float}
 use Rattle.optimize.specs.declared.AssignmentResult.{AssignmentResult}
-use Rattle.optimize.specs.Answer.{assignmentNo}
 use Rattle.solver.specs.Solution.{solutionOf}
+use Rattle.lent_square.proofs.Taken.{taken}
 use Rattle.solver.proofs.Lists.{Placed, solution-placed}
 use Rattle.pairing.specs.declared.Pairing.{Pairing}
 use Rattle.pairing.specs.Pairing.{rowsOf, colsOf, sumOf, pairsIn, pairedOf}
 use Rattle.pairing.proofs.Sums.{in-run}
-
--- the solver takes a matrix of rows and no more than 64 a side
-pub taken : (len h w : ℕ) → 0 < h → h ≤ 64 → w ≤ 64 → len ≡ h * w → assignmentNo len h w ≡ 0
-unfolding assignmentNo
-taken len h w some hh hw e = simp (le-ltb 64 h hh, le-ltb 64 w hw, ne-eqb h 0 (λ (z : h ≡ 0). omega arith), eq-eqb len (h * w) e)
 
 module _ (m : List Float) (h w : ℕ) (limit : Float) (a : AssignmentResult) (is : a ≡ solutionOf m h w limit)
     (some : 0 < h) (hh : h ≤ 64) (hw : w ≤ 64) (long : length m ≡ h * w) where

@@ -1,10 +1,11 @@
-// How a frame's truth boxes are paired with its predictions, and the number of a frame that can't be.
+// How a frame's truth boxes are paired with its predictions, and the numbers 2, 3 and 4 of a frame.
 // Ported from norfair-rs, internal/motmetrics/accumulator.rs, which follows py-motmetrics (NOTICE).
 use optimize::Assignment;
 ghost use mathlib.Core.Path.{_≡_};
 ghost use Prim.Native.Nat.{ℕ, _+_, _*_, _<_, _≤_};
-ghost use lib.ListN.{length, getD};
-ghost use Rattle.pairing.specs.Pairing.{rowsOf, colsOf, sumOf, pairedOf, noPairs, pairingOf};
+ghost use lib.ListN.{length, getD, replicate};
+ghost use Rattle.floats.specs.Float.{zero64};
+ghost use Rattle.pairing.specs.Pairing.{sizeNo, fitNo, shapeNo, rowsOf, colsOf, sumOf, pairedOf, noPairs, pairingOf};
 
 // The pairs by row and column, the rows that are left, and how many predictions are extra; zeros beyond each count.
 // The distance is the total so far with that of every pair added, in order.
@@ -17,6 +18,51 @@ pub struct Pairing {
     pub lefts: usize,
     pub extra: usize,
     pub distance: f64,
+}
+
+// 2, or 0.
+fn size_no(ids: usize, floats: usize) -> u32
+    ensures { λ r. ⌜ r ≡ sizeNo ids floats ⌝ }
+{
+    if ids > 64 {
+        return 2;
+    }
+    if floats / 4 > 64 {
+        return 2;
+    }
+    0
+}
+
+// 3, or 0.
+fn fit_no(ids: usize, floats: usize) -> u32
+    ensures { λ r. ⌜ r ≡ fitNo ids floats ⌝ }
+{
+    if ids != floats / 4 {
+        return 3;
+    }
+    if floats % 4 != 0 {
+        return 3;
+    }
+    0
+}
+
+// 2, 3, or 0: what goes by the lengths alone.
+fn shape_no(gt_ids: usize, gt: usize, pred_ids: usize, pred: usize) -> u32
+    ensures { λ r. ⌜ r ≡ shapeNo «gt_ids» gt «pred_ids» pred ⌝ }
+{
+    let a = size_no(gt_ids, gt);
+    if a != 0 {
+        return a;
+    }
+    let b = size_no(pred_ids, pred);
+    if b != 0 {
+        return b;
+    }
+    let c = fit_no(gt_ids, gt);
+    if c != 0 {
+        return c;
+    }
+    fit_no(pred_ids, pred)
 }
 
 // The rows of the pairs. All 64 places: those beyond the pairs are 0 in the solver's list.
@@ -88,11 +134,18 @@ fn no_pairs(number: u32, extra: usize, total: f64) -> Pairing
 }
 
 // The pairing of a frame with truth, whose distances are known.
-fn paired(m: &[f64], h: usize, w: usize, max_cost: f64, total: f64) -> Pairing
-    requires { ⌜ (0 < h) × (h ≤ 64) × (w ≤ 64) × (length (now m) ≡ h * w) ⌝ }
-    ensures { λ r. ⌜ r ≡ pairedOf (now (m .entry)) h w «max_cost» total ⌝ }
+fn paired(
+    m: &[f64],
+    h: usize,
+    w: usize,
+    max_cost: f64,
+    total: f64,
+    square: &mut [f64; 4096],
+) -> Pairing
+    requires { ⌜ (0 < h) × (h ≤ 64) × (w ≤ 64) × (length (now m) ≡ h * w) × (now square ≡ replicate 4096 zero64) ⌝ }
+    ensures { λ r. ⌜ (r ≡ pairedOf (now (m .entry)) h w «max_cost» total) × (now (square .exit) ≡ replicate 4096 zero64) ⌝ }
 {
-    let a = solver::solve(m, h, w, max_cost);
+    let a = lent_square::solve_in(m, h, w, max_cost, square);
     let assignments = a.assignments;
     let left_rows = a.unmatched_rows;
     let pairs = a.num_assignments;
@@ -111,7 +164,92 @@ fn paired(m: &[f64], h: usize, w: usize, max_cost: f64, total: f64) -> Pairing
     }
 }
 
-// The pairing of a frame of so many ids and these boxes, or its number. The total is the sum of distances so far.
+// The pairing of a frame in shape, with its distances in a lent run that has room for them.
+fn pair_in(
+    gt_ids: usize,
+    gt_bboxes: &[f64],
+    pred_ids: usize,
+    pred_bboxes: &[f64],
+    threshold: f64,
+    total: f64,
+    m: &mut [f64],
+    square: &mut [f64; 4096],
+) -> Pairing
+    requires { ⌜ shapeNo «gt_ids» (length (now «gt_bboxes»)) «pred_ids» (length (now «pred_bboxes»)) ≡ 0 ⌝ }
+    requires { ⌜ («gt_ids» * «pred_ids» ≤ length (now m)) × (now square ≡ replicate 4096 zero64) ⌝ }
+    ensures { λ r. ⌜ (r ≡ pairingOf «gt_ids» (now («gt_bboxes» .entry)) «pred_ids» (now («pred_bboxes» .entry)) threshold total) × (now (square .exit) ≡ replicate 4096 zero64) ⌝ }
+{
+    let boxes = matrix::compute_iou_distance_matrix(gt_bboxes, pred_bboxes, m);
+    if boxes != 0 {
+        return no_pairs(boxes, 0, 0.0);
+    }
+    if gt_ids == 0 {
+        return no_pairs(0, pred_ids, total);
+    }
+    let n = gt_ids * pred_ids;
+    paired(&m[..n], gt_ids, pred_ids, threshold, total, square)
+}
+
+// The pairing of a frame of so many ids and these boxes, or its number. The total is the sum of distances so far. The square is
+// the search's: zeros when it comes, zeros when it goes, so that a loop over frames clears it once.
+// (Three sizes of matrix: to clear 4,096 places costs more than all else of a small frame.)
+pub fn pair_with(
+    gt_ids: usize,
+    gt_bboxes: &[f64],
+    pred_ids: usize,
+    pred_bboxes: &[f64],
+    threshold: f64,
+    total: f64,
+    square: &mut [f64; 4096],
+) -> Pairing
+    requires { ⌜ now square ≡ replicate 4096 zero64 ⌝ }
+    ensures { λ r. ⌜ (r ≡ pairingOf «gt_ids» (now («gt_bboxes» .entry)) «pred_ids» (now («pred_bboxes» .entry)) threshold total) × (now (square .exit) ≡ replicate 4096 zero64) ⌝ }
+{
+    let shape = shape_no(gt_ids, gt_bboxes.len(), pred_ids, pred_bboxes.len());
+    if shape != 0 {
+        return no_pairs(shape, 0, 0.0);
+    }
+    let n = gt_ids * pred_ids;
+    if n <= 64 {
+        let mut small = [0.0f64; 64];
+        return pair_in(
+            gt_ids,
+            gt_bboxes,
+            pred_ids,
+            pred_bboxes,
+            threshold,
+            total,
+            &mut small,
+            square,
+        );
+    }
+    if n <= 1024 {
+        let mut middle = [0.0f64; 1024];
+        return pair_in(
+            gt_ids,
+            gt_bboxes,
+            pred_ids,
+            pred_bboxes,
+            threshold,
+            total,
+            &mut middle,
+            square,
+        );
+    }
+    let mut large = [0.0f64; 4096];
+    pair_in(
+        gt_ids,
+        gt_bboxes,
+        pred_ids,
+        pred_bboxes,
+        threshold,
+        total,
+        &mut large,
+        square,
+    )
+}
+
+// The same with a square of its own.
 pub fn pair(
     gt_ids: usize,
     gt_bboxes: &[f64],
@@ -122,18 +260,14 @@ pub fn pair(
 ) -> Pairing
     ensures { λ r. ⌜ r ≡ pairingOf «gt_ids» (now («gt_bboxes» .entry)) «pred_ids» (now («pred_bboxes» .entry)) threshold total ⌝ }
 {
-    let shape = shape::shape_no(gt_ids, gt_bboxes.len(), pred_ids, pred_bboxes.len());
-    if shape != 0 {
-        return no_pairs(shape, 0, 0.0);
-    }
-    let mut m = [0.0f64; 4096];
-    let boxes = matrix::compute_iou_distance_matrix(gt_bboxes, pred_bboxes, &mut m);
-    if boxes != 0 {
-        return no_pairs(boxes, 0, 0.0);
-    }
-    if gt_ids == 0 {
-        return no_pairs(0, pred_ids, total);
-    }
-    let n = gt_ids * pred_ids;
-    paired(&m[..n], gt_ids, pred_ids, threshold, total)
+    let mut square = [0.0f64; 4096];
+    pair_with(
+        gt_ids,
+        gt_bboxes,
+        pred_ids,
+        pred_bboxes,
+        threshold,
+        total,
+        &mut square,
+    )
 }

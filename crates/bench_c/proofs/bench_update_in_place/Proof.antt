@@ -3,7 +3,9 @@ use mathlib.Core.Path.{_≡_, refl, sym, ap, _∙_}
 use Prim.Native.Nat.{_≤_, _<_}
 use native.Mathlib.Omega.{arith}
 use lib.Dec.{lit≤}
-use lib.ListN.{length}
+use lib.ListN.{length, replicate}
+use lib.Ieee.{ofBits}
+use Rattle.floats.specs.Float.{zero64}
 use Rattle.inplace.specs.declared.Totals.{Totals}
 use Rattle.extended_in_place.proofs.Kept.{used-kept}
 use borrow.Author.Needs.{needs}
@@ -11,22 +13,23 @@ use Rattle.bench_c.proofs.bench_update_in_place.Statement.{statement}
 use Rattle.bench_c.proofs.bench_update_in_place.Tie as tie
 
 abbrev Inv-loop : tie.InvT-loop
-Inv-loop gt-ids gt-bboxes pred-ids pred-bboxes threshold times run₀ totals₀ left₀ run totals left = (totals .used ≤ 256) × (length run ≡ 2304)
+Inv-loop gt-ids gt-bboxes pred-ids pred-bboxes threshold times run₀ square₀ totals₀ left₀ run square totals left = (totals .used ≤ 256) × (length run ≡ 2304) × (square ≡ replicate 4096 zero64)
 
 abbrev μ-loop : tie.MeasureT-loop
-μ-loop gt-ids gt-bboxes pred-ids pred-bboxes threshold times run₀ totals₀ left₀ run totals left = left
+μ-loop gt-ids gt-bboxes pred-ids pred-bboxes threshold times run₀ square₀ totals₀ left₀ run square totals left = left
 
 new-requires : tie.Need-new-requires Inv-loop μ-loop
 new-requires c κs = search needs
 
 loop-holds : tie.Need-loop-holds Inv-loop μ-loop
-loop-holds c = ((let e = ap (λ (t : Totals). t .used) (c .new .ensures) in omega arith), refl)
+unfolding ofBits
+loop-holds c = ((let e = ap (λ (t : Totals). t .used) (c .new .ensures) in omega arith), refl, refl)
 
 slice-aggregate-update-in-place : tie.Need-slice-aggregate-update-in-place Inv-loop μ-loop
 slice-aggregate-update-in-place c = sym (c .before .before .loop .inv .1)
 
 update-in-place-requires : tie.Need-update-in-place-requires Inv-loop μ-loop
-update-in-place-requires c κs = c .before .before .loop .inv
+update-in-place-requires c κs = c .before .before .before .loop .inv
 
 sub-left : tie.Need-sub-left Inv-loop μ-loop
 sub-left c = search needs
@@ -37,11 +40,12 @@ loop-less c = search needs
 loop-again : tie.Need-loop-again Inv-loop μ-loop
 loop-again c =
     let u = c .before .before in
-    let b = u .before .before .before in
+    let b = u .before .before .before .before in
     let a = b .before .before .before .before .args in (
       used-kept (b .loop .run) (b .loop .totals) (a .gt-ids .now) (a .gt-bboxes .now) (a .pred-ids .now) (a .pred-bboxes .now) (a .threshold) (b .loop .inv .0)
-          _ (u .update-in-place .result) (u .update-in-place .ensures),
+          _ (u .update-in-place .result) (u .update-in-place .ensures .1),
       u .update-in-place .kept .0 ∙ b .loop .inv .1,
+      u .update-in-place .ensures .0,
     )
 
 returns : tie.Need-returns Inv-loop μ-loop

@@ -6,22 +6,26 @@ use borrow.Author.Needs.{needs}
 use Rattle.extended_in_place.proofs.update_in_place.Statement.{statement}
 use Rattle.extended_in_place.proofs.update_in_place.Tie as tie
 
-pair-requires : tie.Need-pair-requires
-pair-requires c κs = search needs
+pair-with-requires : tie.Need-pair-with-requires
+pair-with-requires c κs = search needs
 
 returns : tie.Need-returns
 returns c =
-    let a = c .before .before .before .before .before .args in
-    let p = c .before .before .pair in
-    ways.unpaired (a .run .now) (a .totals) (a .gt-ids .now) (a .gt-bboxes .now) (a .pred-ids .now) (a .pred-bboxes .now) (a .threshold) (p .result) (p .ensures) (c .if1 .taken)
+    let p = c .before .before in
+    let a = p .before .before .before .before .args in (
+      p .pair-with .ensures .1,
+      ways.unpaired (a .run .now) (a .totals) (a .gt-ids .now) (a .gt-bboxes .now) (a .pred-ids .now) (a .pred-bboxes .now) (a .threshold) (p .pair-with .result) (p .pair-with .ensures .0) (c .if1 .taken),
+    )
 
 book-requires : tie.Need-book-requires
 book-requires c κs =
     let e = c .before in
-    let s = e .before .before .before .before .before in
-    let a = s .args in
-    let p = e .before .before .pair in
-    (s .pre, extended.lies (stateOf (a .run .now) (a .totals)) (a .gt-ids .now) (a .gt-bboxes .now) (a .pred-ids .now) (a .pred-bboxes .now) (a .threshold) (p .result) (p .ensures) (e .if1 .left))
+    let p = e .before .before in
+    let s = p .before .before .before .before in
+    let a = s .args in (
+      (s .pre .0, s .pre .1),
+      extended.lies (stateOf (a .run .now) (a .totals)) (a .gt-ids .now) (a .gt-bboxes .now) (a .pred-ids .now) (a .pred-bboxes .now) (a .threshold) (p .pair-with .result) (p .pair-with .ensures .0) (e .if1 .left),
+    )
 
 same-length : tie.Need-same-length
 same-length c = search needs
@@ -30,11 +34,13 @@ returns-2 : tie.Need-returns-2
 returns-2 c =
     let b = c .before in
     let e = b .before .before in
-    let a = e .before .before .before .before .before .args in
-    let p = e .before .before .pair in
-    ways.booked (a .run .now) (a .totals) (a .gt-ids .now) (a .gt-bboxes .now) (a .pred-ids .now) (a .pred-bboxes .now) (a .threshold) (p .result) (p .ensures) (e .if1 .left)
-    (b .book .last .0) (b .book .result) (b .book .ensures)
+    let p = e .before .before in
+    let a = p .before .before .before .before .args in (
+      p .pair-with .ensures .1,
+      ways.booked (a .run .now) (a .totals) (a .gt-ids .now) (a .gt-bboxes .now) (a .pred-ids .now) (a .pred-bboxes .now) (a .threshold) (p .pair-with .result) (p .pair-with .ensures .0) (e .if1 .left)
+          (b .book .last .0) (b .book .result) (b .book .ensures),
+    )
 
 pub update-in-place-spec : {M : Type 1} → statement M
 update-in-place-spec =
-    tie.close (tie.spec pair-requires returns book-requires same-length returns-2)
+    tie.close (tie.spec pair-with-requires returns book-requires same-length returns-2)
