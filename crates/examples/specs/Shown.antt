@@ -2,7 +2,7 @@
 use Prim.Native.Nat.{ℕ}
 use mathlib.Core.List.{List}
 use lib.ListN.{length}
-use lib.Ieee.{Float, fin}
+use lib.Ieee.{Float, binary64, fin, ofInt}
 use lib.IntN.{pos}
 use mathlib.Core.Bool.{false}
 use Rattle.square.specs.Index.{filled}
@@ -27,6 +27,10 @@ shown pairs rows cols corrections paths = record {
   paths = paths;
 }
 
--- the whole number k times 2 to the e, as a float
+-- a whole number, as a float
+abbrev pub whole : ℕ → Float
+whole n = ofInt binary64 (pos n)
+
+-- the whole number k times 2 to the e, which is how a float is kept
 abbrev pub two : ℕ → ℕ → Float
 two k e = fin false k (pos e)

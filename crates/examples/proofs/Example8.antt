@@ -19,17 +19,18 @@ use Rattle.search.specs.Run.{Run, stop}
 use Rattle.search.proofs.ReachCode.{clear}
 use Rattle.search.proofs.ReachOf.{mark-row, part-none, free-missing, zero-missing, pair-missing}
 use Rattle.optimize.specs.Answer.{assignmentNo, Answered, found, passesOf, resultOf}
-use Rattle.optimize_examples.specs.Shown.{shown}
-use Rattle.optimize_examples.proofs.Steps.{reached-by}
+use Rattle.solver.specs.Solution.{solutionOf, answer-is}
+use Rattle.examples.specs.Shown.{shown}
+use Rattle.examples.proofs.Steps.{reached-by}
 
-pub matrix : List Float
+abbrev matrix : List Float
 matrix = nan ∷ []
 
 s : State
 s = state (set (replicate 4096 zero64) 0 nan) (replicate 64 64) (replicate 64 64)
 
 start : startOf matrix 1 1 ≡ s
-unfolding matrix s startOf over zeroAt isFinite isZero absOf lt
+unfolding s startOf over zeroAt isFinite isZero absOf lt
 start = refl
 
 reached : Reached 1 s (set clear 0 true) clear
@@ -50,8 +51,11 @@ number : assignmentNo 1 1 1 ≡ 0
 unfolding assignmentNo
 number = refl
 
--- EXAMPLE 8: nothing is paired, counts 0, whatever max_cost is
-pub example-8 : (limit : Float) → Answered matrix 1 1 limit (shown [] (0 ∷ []) (0 ∷ []) 0 0)
-unfolding resultOf matrix s gather count any passesOf le eq lt
-example-8 limit = found number (lit< tt) (lit< tt)
+answered : (limit : Float) → Answered matrix 1 1 limit (shown [] (0 ∷ []) (0 ∷ []) 0 0)
+unfolding resultOf s gather count any passesOf le eq lt
+answered limit = found number (lit< tt) (lit< tt)
     (record { square = s .square; cols = s .cols; run = subst (λ (x : State). Run 1 x 0 0 s) (sym start) (stop (inr stuck)) })
+
+-- EXAMPLE 8: nothing is paired, counts 0, whatever max_cost is
+pub example-8 : (limit : Float) → solutionOf matrix 1 1 limit ≡ shown [] (0 ∷ []) (0 ∷ []) 0 0
+example-8 limit = sym (answer-is matrix 1 1 limit (answered limit))

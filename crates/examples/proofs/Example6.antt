@@ -6,7 +6,7 @@ use mathlib.Core.List.{List, [], _∷_}
 use mathlib.Core.Logic.{inl}
 use lib.Dec.{lit<, lit≤}
 use lib.ListN.{set, replicate}
-use lib.Ieee.{Float, lt, le, eq, add, sub}
+use lib.Ieee.{Float, ofInt, lt, le, eq, add, sub}
 use Rattle.floats.specs.Float.{zero64, isFinite, isZero, absOf}
 use Rattle.square.specs.Index.{gather, count, any}
 use Rattle.square.specs.Square.{over, zeroAt, line}
@@ -19,10 +19,12 @@ use Rattle.search.specs.Run.{Run, stop, path, correct}
 use Rattle.search.proofs.ReachCode.{clear}
 use Rattle.search.proofs.ReachOf.{mark-row, mark-col, part-none, free-missing, zero-missing, pair-missing}
 use Rattle.optimize.specs.Answer.{assignmentNo, Answered, found, passesOf, Solved, resultOf}
-use Rattle.optimize_examples.specs.Shown.{shown, pair, two}
-use Rattle.optimize_examples.proofs.Steps.{full-by, reached-by}
+use Rattle.solver.specs.Solution.{solutionOf, answer-is}
+use Rattle.examples.specs.Shown.{whole, shown, pair, two}
+use Rattle.examples.specs.Table.{nines}
+use Rattle.examples.proofs.Steps.{full-by, reached-by}
 
-pub matrix : List Float
+matrix : List Float
 matrix = two 1 0 ∷ two 1 1 ∷ two 3 0 ∷ two 1 1 ∷ two 1 2 ∷ two 3 1 ∷ two 3 0 ∷ two 3 1 ∷ two 9 0 ∷ []
 
 -- ---- A to C: the square (0, 0, 0), (0, 1, 2), (0, 2, 4), and the pair (0, 0)
@@ -149,12 +151,24 @@ number : assignmentNo 9 3 3 ≡ 0
 unfolding assignmentNo
 number = refl
 
--- EXAMPLE 6: (0, 2), (1, 1), (2, 0); 1 correction, 2 path changes
-pub example-6 : Answered matrix 3 3 (two 9 0) (shown (pair 0 2 ∷ pair 1 1 ∷ pair 2 0 ∷ []) [] [] 1 2)
+nine : Answered matrix 3 3 (two 9 0) (shown (pair 0 2 ∷ pair 1 1 ∷ pair 2 0 ∷ []) [] [] 1 2)
 unfolding resultOf matrix gather count any passesOf le eq lt
-example-6 = found number (lit< tt) (lit< tt) solved
+nine = found number (lit< tt) (lit< tt) solved
+
+three : Answered matrix 3 3 (two 3 0) (shown (pair 0 2 ∷ pair 2 0 ∷ []) (1 ∷ []) (1 ∷ []) 1 2)
+unfolding resultOf matrix gather count any passesOf le eq lt
+three = found number (lit< tt) (lit< tt) solved
+
+matrix-is : matrix ≡ nines
+unfolding matrix ofInt
+matrix-is = refl
+
+-- EXAMPLE 6: (0, 2), (1, 1), (2, 0); 1 correction, 2 path changes
+pub example-6 : solutionOf nines 3 3 (whole 9) ≡ shown (pair 0 2 ∷ pair 1 1 ∷ pair 2 0 ∷ []) [] [] 1 2
+unfolding ofInt
+example-6 = ap (λ (m : List Float). solutionOf m 3 3 (two 9 0)) (sym matrix-is) ∙ sym (answer-is matrix 3 3 (two 9 0) nine)
 
 -- EXAMPLE 7: (0, 2), (2, 0); row 1 and column 1 left
-pub example-7 : Answered matrix 3 3 (two 3 0) (shown (pair 0 2 ∷ pair 2 0 ∷ []) (1 ∷ []) (1 ∷ []) 1 2)
-unfolding resultOf matrix gather count any passesOf le eq lt
-example-7 = found number (lit< tt) (lit< tt) solved
+pub example-7 : solutionOf nines 3 3 (whole 3) ≡ shown (pair 0 2 ∷ pair 2 0 ∷ []) (1 ∷ []) (1 ∷ []) 1 2
+unfolding ofInt
+example-7 = ap (λ (m : List Float). solutionOf m 3 3 (two 3 0)) (sym matrix-is) ∙ sym (answer-is matrix 3 3 (two 3 0) three)

@@ -1,11 +1,11 @@
 -- Example 5 of document 01: rows (0, 4), (1, 9), max 3. The first pass pairs (0, 0); the path from row 1 flips it. Assumes nothing.
-use mathlib.Core.Path.{_≡_, refl, sym, subst}
+use mathlib.Core.Path.{_≡_, refl, sym, ap, _∙_, subst}
 use mathlib.Core.Bool.{true, false, true≢false}
 use mathlib.Core.List.{List, [], _∷_}
 use mathlib.Core.Logic.{inl}
 use lib.Dec.{lit<}
 use lib.ListN.{set, replicate}
-use lib.Ieee.{Float, lt, le, eq, sub}
+use lib.Ieee.{Float, ofInt, lt, le, eq, sub}
 use Rattle.floats.specs.Float.{zero64, isFinite, isZero, absOf}
 use Rattle.square.specs.Index.{gather, count, any}
 use Rattle.square.specs.Square.{over, zeroAt, line}
@@ -15,10 +15,12 @@ use Rattle.paths.specs.Path.{bfsOf, Path, last, next}
 use Rattle.start.specs.Steps.{startOf}
 use Rattle.search.specs.Run.{Run, stop, path}
 use Rattle.optimize.specs.Answer.{assignmentNo, Answered, found, passesOf, resultOf}
-use Rattle.optimize_examples.specs.Shown.{shown, pair, two}
-use Rattle.optimize_examples.proofs.Steps.{full-by}
+use Rattle.solver.specs.Solution.{solutionOf, answer-is}
+use Rattle.examples.specs.Shown.{whole, shown, pair, two}
+use Rattle.examples.specs.Table.{fours}
+use Rattle.examples.proofs.Steps.{full-by}
 
-pub matrix : List Float
+matrix : List Float
 matrix = zero64 ∷ two 1 2 ∷ two 1 0 ∷ two 9 0 ∷ []
 
 -- after step B (0, 0), (0, 4)
@@ -57,7 +59,15 @@ number : assignmentNo 4 2 2 ≡ 0
 unfolding assignmentNo
 number = refl
 
--- EXAMPLE 5: pair (1, 0); row 0 and column 1 left; 0 corrections, 1 path change
-pub example-5 : Answered matrix 2 2 (two 3 0) (shown (pair 1 0 ∷ []) (0 ∷ []) (1 ∷ []) 0 1)
+answered : Answered matrix 2 2 (two 3 0) (shown (pair 1 0 ∷ []) (0 ∷ []) (1 ∷ []) 0 1)
 unfolding resultOf matrix s1 gather count any passesOf le eq lt
-example-5 = found number (lit< tt) (lit< tt) (record { square = s1 .square; cols = s1 .cols; run = subst (λ (x : State). Run 2 x 0 1 s1) (sym start) run })
+answered = found number (lit< tt) (lit< tt) (record { square = s1 .square; cols = s1 .cols; run = subst (λ (x : State). Run 2 x 0 1 s1) (sym start) run })
+
+matrix-is : matrix ≡ fours
+unfolding matrix ofInt
+matrix-is = refl
+
+-- EXAMPLE 5: pair (1, 0); row 0 and column 1 left; 0 corrections, 1 path change
+pub example-5 : solutionOf fours 2 2 (whole 3) ≡ shown (pair 1 0 ∷ []) (0 ∷ []) (1 ∷ []) 0 1
+unfolding ofInt
+example-5 = ap (λ (m : List Float). solutionOf m 2 2 (two 3 0)) (sym matrix-is) ∙ sym (answer-is matrix 2 2 (two 3 0) answered)
