@@ -26,6 +26,14 @@ extern "C" {
         ids: *const i32, ids_len: usize, hyp_ids: *const i32, hyp_ids_len: usize, distances: *const f64,
         distances_len: usize, times: u64,
     ) -> usize;
+    fn bench_metrics_update(
+        ids: *const i32, ids_len: usize, hyp_ids: *const i32, hyp_ids_len: usize, truth: *const f64, truth_len: usize,
+        predicted: *const f64, predicted_len: usize, threshold: f64, times: u64,
+    ) -> usize;
+    fn bench_metrics_update_sound(
+        ids: *const i32, ids_len: usize, hyp_ids: *const i32, hyp_ids_len: usize, truth: *const f64, truth_len: usize,
+        predicted: *const f64, predicted_len: usize, threshold: f64, times: u64,
+    ) -> usize;
     fn bench_pair_by_distance(distances: *const f64, distances_len: usize, rows: usize, columns: usize) -> usize;
     fn bench_update_in_place(
         gt_ids: *const i32, gt_ids_len: usize, gt: *const f64, gt_len: usize, pred_ids: *const i32, pred_ids_len: usize,
@@ -86,6 +94,18 @@ pub fn mot_updates(ids: &[i32], distances: &[f64], times: u64, sound: bool) -> u
     let call = if sound { bench_mot_update_sound } else { bench_mot_update };
     // SAFETY: as above
     unsafe { call(ids.as_ptr(), ids.len(), ids.as_ptr(), ids.len(), distances.as_ptr(), distances.len(), times) }
+}
+
+/// How many events module 4's accumulator has logged after so many updates by one frame.
+pub fn metrics_updates(ids: &[i32], truth: &[f64], predicted: &[f64], threshold: f64, times: u64, sound: bool) -> usize {
+    let call = if sound { bench_metrics_update_sound } else { bench_metrics_update };
+    // SAFETY: as above
+    unsafe {
+        call(
+            ids.as_ptr(), ids.len(), ids.as_ptr(), ids.len(), truth.as_ptr(), truth.len(), predicted.as_ptr(),
+            predicted.len(), threshold, times,
+        )
+    }
 }
 
 pub fn pair_by_distance(distances: &[f64], side: usize) -> usize {

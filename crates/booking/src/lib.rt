@@ -46,7 +46,7 @@ fn false_event(frame: i32, hypothesis: i32) -> Event
 }
 
 // The places below n that are not marked, rising, and 0 behind them.
-fn left_of(marks: &[bool; 64], n: usize) -> [usize; 64]
+pub fn left_of(marks: &[bool; 64], n: usize) -> [usize; 64]
     requires { ⌜ n ≤ 64 ⌝ }
     ensures { λ r. ⌜ r ≡ filled 0 (leftOf n (now (marks .entry))) ⌝ }
 {
@@ -64,7 +64,7 @@ fn left_of(marks: &[bool; 64], n: usize) -> [usize; 64]
 }
 
 // Event number k of a frame: pairs in their order, then rows that are left, then columns that are left.
-fn event_at(
+pub fn event_at(
     frame: i32,
     object_ids: &[i32],
     hypothesis_ids: &[i32],

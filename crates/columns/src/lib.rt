@@ -26,7 +26,8 @@ fn is_set(flag: i32) -> bool
     !counts::same_id(flag, 0)
 }
 
-fn partner_of(known: i32, partner: i32) -> Partner
+// The last partner, where it is known.
+pub fn partner_of(known: i32, partner: i32) -> Partner
     ensures { λ r. ⌜ r ≡ partnerOf known partner ⌝ }
 {
     if is_set(known) {
