@@ -1,15 +1,21 @@
 //! The port beside the Rust, in one process: the same inputs, both built for release, five rounds.
-//! Words name the parts to time (boxes, search, extended, mot); without one all are.
+//! Words name the parts to time (boxes, search, extended, mot, metrics); without one all are.
 
 mod boxes;
 mod extended;
+mod metrics;
 mod mot;
 mod port;
 mod rounds;
 mod search;
 
-const PARTS: &[(&str, fn())] =
-    &[("boxes", boxes::bench), ("search", search::bench), ("extended", extended::bench), ("mot", mot::bench)];
+const PARTS: &[(&str, fn())] = &[
+    ("boxes", boxes::bench),
+    ("search", search::bench),
+    ("extended", extended::bench),
+    ("mot", mot::bench),
+    ("metrics", metrics::bench),
+];
 
 fn main() {
     let asked: Vec<String> = std::env::args().skip(1).collect();

@@ -1,5 +1,7 @@
 //! What crates/mot_c and crates/bench_c export. A slice goes over as a pointer and a length.
 
+use crate::extended::Frame;
+
 extern "C" {
     fn mot_compute_iou_distance_matrix(
         gt: *const f64, gt_len: usize, pred: *const f64, pred_len: usize, out: *mut f64, out_len: usize,
@@ -25,6 +27,14 @@ extern "C" {
     fn bench_mot_update_sound(
         ids: *const i32, ids_len: usize, hyp_ids: *const i32, hyp_ids_len: usize, distances: *const f64,
         distances_len: usize, times: u64,
+    ) -> usize;
+    fn bench_metrics_update(
+        ids: *const i32, ids_len: usize, hyp_ids: *const i32, hyp_ids_len: usize, truth: *const f64, truth_len: usize,
+        predicted: *const f64, predicted_len: usize, threshold: f64, times: u64,
+    ) -> usize;
+    fn bench_metrics_update_sound(
+        ids: *const i32, ids_len: usize, hyp_ids: *const i32, hyp_ids_len: usize, truth: *const f64, truth_len: usize,
+        predicted: *const f64, predicted_len: usize, threshold: f64, times: u64,
     ) -> usize;
     fn bench_pair_by_distance(distances: *const f64, distances_len: usize, rows: usize, columns: usize) -> usize;
     fn bench_update_in_place(
@@ -86,6 +96,19 @@ pub fn mot_updates(ids: &[i32], distances: &[f64], times: u64, sound: bool) -> u
     let call = if sound { bench_mot_update_sound } else { bench_mot_update };
     // SAFETY: as above
     unsafe { call(ids.as_ptr(), ids.len(), ids.as_ptr(), ids.len(), distances.as_ptr(), distances.len(), times) }
+}
+
+/// How many events module 4's accumulator has logged after so many updates by one frame.
+pub fn metrics_updates(frame: &Frame, threshold: f64, times: u64, sound: bool) -> usize {
+    let call = if sound { bench_metrics_update_sound } else { bench_metrics_update };
+    let Frame { ids, truth, predicted } = frame;
+    // SAFETY: as above
+    unsafe {
+        call(
+            ids.as_ptr(), ids.len(), ids.as_ptr(), ids.len(), truth.as_ptr(), truth.len(), predicted.as_ptr(),
+            predicted.len(), threshold, times,
+        )
+    }
 }
 
 pub fn pair_by_distance(distances: &[f64], side: usize) -> usize {

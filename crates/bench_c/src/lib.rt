@@ -1,7 +1,8 @@
 // Updates for bench/run, made one after the other on this side of the border, where the state stays.
+mod metrics;
 mod mot;
 
-use inplace::Totals;
+use frame::Totals;
 use rows::ExtendedMOTAccumulator;
 
 // The public update by one frame so many times, from a new state; the total distance.

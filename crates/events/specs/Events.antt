@@ -13,10 +13,7 @@ use Rattle.events.specs.declared.What.the-variants.{Match, Switch, Miss,
 use Rattle.events.specs.declared.Log.{Log}
 use Rattle.events.specs.declared.Tally.{Tally}
 
--- ---- what stands for each case: no number but 0, and its values
-abbrev pub whatNo : What → ℕ
-whatNo w = 0
-
+-- ---- what stands for each case
 -- the truth id, the hypothesis id and the distance that a case holds: a list of one, or of none
 pub record Values : Type 0 where
   pub truth : List ℤ

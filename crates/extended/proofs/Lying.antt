@@ -16,8 +16,9 @@ use Rattle.matrix.proofs.Laws.{length-matrix, or-zero}
 use Rattle.solver.specs.Solution.{solutionOf}
 use Rattle.solver.proofs.Lists.{Placed, solution-placed}
 use Rattle.pairing.specs.declared.Pairing.{Pairing}
-use Rattle.pairing.specs.Pairing.{shapeNo, pairingNo, noPairs, pairedOf, framePairs, pairingAt, pairingOf}
-use Rattle.pairing.proofs.Numbers.{Side, sides}
+use Rattle.shape.specs.Shape.{shapeNo}
+use Rattle.shape.proofs.Sides.{Side, sides}
+use Rattle.pairing.specs.Pairing.{pairingNo, noPairs, pairedOf, framePairs, pairingAt, pairingOf}
 use Rattle.lent_square.proofs.Taken.{taken}
 use Rattle.pairing.proofs.Ways.{accept}
 use Rattle.extended.specs.Update.{Lie}

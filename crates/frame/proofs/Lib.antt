@@ -1,4 +1,4 @@
-pub mod Totals
+pub mod Counters
 pub mod Fitting
 pub mod Agreement
 pub mod Finals

@@ -1,17 +1,21 @@
 -- Document 01, "Lifecycles and events" and refusals 5 and 7: a frame whose pairing is handed in.
 use mathlib.Core.Bool.{Bool, _&&_, cond}
+use mathlib.Core.List.{List}
 use Prim.Native.Nat.{ℕ, _+_, _≤_}
 use lib.Dec.{eqb}
 use lib.IntN.{ℤ, pos, _+ℤ_}
 use lib.Signed.{nonNeg}
 use lib.Ieee.{Float}
+use Rattle.floats.specs.Float.{zero64}
 use Rattle.counts.specs.Counts.{roomFor}
+use Rattle.slots.specs.declared.Slot.{Slot}
 use Rattle.slots.specs.Slots.{soundOf}
 use Rattle.rows.specs.declared.ExtendedMOTAccumulator.{ExtendedMOTAccumulator}
 use Rattle.rows.specs.declared.Row.{Row}
 use Rattle.rows.specs.declared.Trial.{Trial}
 use Rattle.rows.specs.Rows.{trialAfter}
 use Rattle.frame.specs.declared.Shares.{Shares}
+use Rattle.frame.specs.declared.Totals.{Totals}
 use Rattle.frame.specs.declared.Booked.{Booked}
 
 -- ---- refusal 1: a negative counter, or a table that is not sound
@@ -26,6 +30,47 @@ soundState s = totalsSound s && soundOf (s .slots) (s .used)
 -- the frame's number: one more; where that would pass, the frame is refused in the end
 unfoldable pub nextFrame : ℤ → ℤ
 nextFrame frame = cond (roomFor frame 1) (frame +ℤ pos 1) frame
+
+-- ---- a state: its table, and the totals beside it
+abbrev pub totalsOf : ExtendedMOTAccumulator → Totals
+totalsOf s =
+    record {
+      used = s .used;
+      «frame_id» = s .«frame_id»;
+      «num_matches» = s .«num_matches»;
+      «num_misses» = s .«num_misses»;
+      «num_false_positives» = s .«num_false_positives»;
+      «num_switches» = s .«num_switches»;
+      «num_objects» = s .«num_objects»;
+      «total_distance» = s .«total_distance»;
+    }
+
+abbrev pub stateWith : List Slot → Totals → ExtendedMOTAccumulator
+stateWith slots t =
+    record {
+      slots = slots;
+      used = t .used;
+      «frame_id» = t .«frame_id»;
+      «num_matches» = t .«num_matches»;
+      «num_misses» = t .«num_misses»;
+      «num_false_positives» = t .«num_false_positives»;
+      «num_switches» = t .«num_switches»;
+      «num_objects» = t .«num_objects»;
+      «total_distance» = t .«total_distance»;
+    }
+
+abbrev pub newTotals : Totals
+newTotals =
+    record {
+      used = 0;
+      «frame_id» = pos 0;
+      «num_matches» = pos 0;
+      «num_misses» = pos 0;
+      «num_false_positives» = pos 0;
+      «num_switches» = pos 0;
+      «num_objects» = pos 0;
+      «total_distance» = zero64;
+    }
 
 -- ---- the counters
 pub record Few (by : Shares) : Type 0 where
@@ -47,10 +92,9 @@ roomForAll t by =
     && (roomFor (t .«num_switches») (by .switches) && roomFor (t .«num_objects») (by .objects)))
 
 -- "adds 1 each accepted call"; "num_objects rises by the number of truth ids"
-unfoldable pub raisedBy : ExtendedMOTAccumulator → Shares → Float → ExtendedMOTAccumulator
-raisedBy t by distance =
+abbrev pub raisedTotals : Totals → Shares → Float → Totals
+raisedTotals t by distance =
     record {
-      slots = t .slots;
       used = t .used;
       «frame_id» = t .«frame_id» +ℤ pos 1;
       «num_matches» = t .«num_matches» +ℤ pos (by .matches);
@@ -60,6 +104,9 @@ raisedBy t by distance =
       «num_objects» = t .«num_objects» +ℤ pos (by .objects);
       «total_distance» = distance;
     }
+
+unfoldable pub raisedBy : ExtendedMOTAccumulator → Shares → Float → ExtendedMOTAccumulator
+raisedBy t by distance = stateWith (t .slots) (raisedTotals (totalsOf t) by distance)
 
 -- ---- the number, lowest first, and the state: beside a refusal the one that came
 abbrev pub trialNo : Trial → Bool → ℕ

@@ -4,10 +4,11 @@ use rows::ExtendedMOTAccumulator;
 use rows::Trial;
 ghost use mathlib.Core.Path.{_≡_};
 ghost use mathlib.Core.Bool.{true, _&&_};
+ghost use mathlib.Core.List.{[]};
 ghost use Prim.Native.Nat.{_≤_};
 ghost use lib.ListN.{length};
 ghost use Rattle.rows.specs.Rows.{Lies, rowAt};
-ghost use Rattle.frame.specs.Frame.{totalsSound, soundState, Few, nextFrame, roomForAll, raisedBy, closed, frameOf};
+ghost use Rattle.frame.specs.Frame.{totalsSound, soundState, newTotals, totalsOf, stateWith, Few, nextFrame, roomForAll, raisedTotals, closed, frameOf};
 
 // What a frame adds to each of the six counters.
 pub struct Shares {
@@ -16,6 +17,36 @@ pub struct Shares {
     pub false_positives: usize,
     pub switches: usize,
     pub objects: usize,
+}
+
+// What a state holds beside its table.
+pub struct Totals {
+    pub used: usize,
+    pub frame_id: i32,
+    pub num_matches: i32,
+    pub num_misses: i32,
+    pub num_false_positives: i32,
+    pub num_switches: i32,
+    pub num_objects: i32,
+    pub total_distance: f64,
+}
+
+impl Totals {
+    // Frame 0, and nothing counted: with a table of zeros a new state.
+    pub fn new() -> Self
+        ensures { λ r. ⌜ r ≡ newTotals ⌝ }
+    {
+        Self {
+            used: 0,
+            frame_id: 0,
+            num_matches: 0,
+            num_misses: 0,
+            num_false_positives: 0,
+            num_switches: 0,
+            num_objects: 0,
+            total_distance: 0.0,
+        }
+    }
 }
 
 // The number of a frame, and the state: beside a refusal the one that came.
@@ -53,10 +84,40 @@ pub fn both(a: bool, b: bool) -> bool
     if a { b } else { false }
 }
 
+fn totals_of(s: ExtendedMOTAccumulator) -> Totals
+    ensures { λ r. ⌜ r ≡ totalsOf s ⌝ }
+{
+    Totals {
+        used: s.used,
+        frame_id: s.frame_id,
+        num_matches: s.num_matches,
+        num_misses: s.num_misses,
+        num_false_positives: s.num_false_positives,
+        num_switches: s.num_switches,
+        num_objects: s.num_objects,
+        total_distance: s.total_distance,
+    }
+}
+
+// A state's table with these totals beside it.
+fn with_totals(mut s: ExtendedMOTAccumulator, t: Totals) -> ExtendedMOTAccumulator
+    ensures { λ r. ⌜ r ≡ stateWith (s .slots) t ⌝ }
+{
+    s.used = t.used;
+    s.frame_id = t.frame_id;
+    s.num_matches = t.num_matches;
+    s.num_misses = t.num_misses;
+    s.num_false_positives = t.num_false_positives;
+    s.num_switches = t.num_switches;
+    s.num_objects = t.num_objects;
+    s.total_distance = t.total_distance;
+    s
+}
+
 // Whether each counter can take its share of a frame.
-fn room_for_all(t: ExtendedMOTAccumulator, by: Shares) -> bool
+pub fn room_for_all(t: Totals, by: Shares) -> bool
     requires { ⌜ Few by ⌝ }
-    ensures { λ r. ⌜ r ≡ roomForAll t by ⌝ }
+    ensures { λ r. ⌜ r ≡ roomForAll (stateWith [] t) by ⌝ }
 {
     let a = counts::room_for(t.frame_id, 1);
     let b = counts::room_for(t.num_matches, by.matches);
@@ -67,10 +128,10 @@ fn room_for_all(t: ExtendedMOTAccumulator, by: Shares) -> bool
     both(all_three(a, b, c), all_three(d, e, f))
 }
 
-fn raised_by(t: ExtendedMOTAccumulator, by: Shares, distance: f64) -> ExtendedMOTAccumulator
+pub fn raised_by(t: Totals, by: Shares, distance: f64) -> Totals
     requires { ⌜ Few by ⌝ }
-    requires { ⌜ roomForAll t by ≡ true ⌝ }
-    ensures { λ r. ⌜ r ≡ raisedBy t by distance ⌝ }
+    requires { ⌜ roomForAll (stateWith [] t) by ≡ true ⌝ }
+    ensures { λ r. ⌜ r ≡ raisedTotals t by distance ⌝ }
 {
     let mut u = t;
     u.frame_id = counts::add(t.frame_id, 1);
@@ -101,13 +162,14 @@ fn close_frame(s: ExtendedMOTAccumulator, t: Trial, by: Shares, distance: f64) -
         };
     }
     let u = t.state;
-    if !room_for_all(u, by) {
+    let totals = totals_of(u);
+    if !room_for_all(totals, by) {
         return Booked {
             number: 7,
             state: s,
         };
     }
-    let booked = raised_by(u, by, distance);
+    let booked = with_totals(u, raised_by(totals, by, distance));
     Booked {
         number: 0,
         state: booked,

@@ -17,23 +17,23 @@ use Rattle.square.proofs.Gather.{gather-yes, gather-no, gather-none, gather-len
 use Rattle.sorting.specs.Order.{Each, Rising, Numbers, keyOf}
 use Rattle.greedy_pairs.specs.Pairs.{placesOf}
 
--- ---- the loop: the first places of order are those below i that pass
-module _ (passes : Float → Bool) (entries : List Float) where
+-- ---- the loop: the first places of order, which has so many, are those below i that pass
+module _ (passes : Float → Bool) (entries : List Float) (places : ℕ) where
   abbrev at : ℕ → Bool
   at i = passes (keyOf entries i)
 
   pub record Listing (order : List ℕ) (used i : ℕ) : Type 0 where
     pub within : i ≤ length entries
     pub few : used ≤ i
-    pub long : length order ≡ 4096
+    pub long : length order ≡ places
     pub used-is : used ≡ count i at
     pub listed : take used order ≡ gather i at (λ j. j)
 
-  pub starts : (order : List ℕ) → length order ≡ 4096 → Listing order 0 0
+  pub starts : (order : List ℕ) → length order ≡ places → Listing order 0 0
   starts order h = record { within = omega arith; few = omega arith; long = h; used-is = sym (count-zero at); listed = sym (gather-none at (λ j. j)) }
 
   module _ (order : List ℕ) (used i : ℕ) (p : Listing order used i) where
-    pub lists : (order' : List ℕ) (used' : ℕ) → i < length entries → length entries ≤ 4096 → at i ≡ true → order' ≡ set order used i → used' ≡ used + 1 → Listing order' used' (i + 1)
+    pub lists : (order' : List ℕ) (used' : ℕ) → i < length entries → length entries ≤ places → at i ≡ true → order' ≡ set order used i → used' ≡ used + 1 → Listing order' used' (i + 1)
     lists order' used' h r e eo eu =
         let k = p .few in
         let m = p .long in

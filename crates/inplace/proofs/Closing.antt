@@ -12,10 +12,10 @@ use Rattle.rows.specs.declared.Trial.{Trial}
 use Rattle.rows.specs.Rows.{trialOf, trialAfter}
 use Rattle.frame.specs.declared.Booked.{Booked}
 use Rattle.frame.specs.declared.Shares.{Shares}
-use Rattle.frame.specs.Frame.{nextFrame, sharesOf, roomForAll, raisedBy, closedAt, closed, framed, frameOf}
-use Rattle.inplace.specs.declared.Totals.{Totals}
+use Rattle.frame.specs.Frame.{nextFrame, stateWith, sharesOf, roomForAll, raisedTotals, raisedBy, closedAt, closed, framed, frameOf}
+use Rattle.frame.specs.declared.Totals.{Totals}
 use Rattle.inplace.specs.declared.Tally.{Tally}
-use Rattle.inplace.specs.InPlace.{stateOf, raisedTotals, numberOf, tableAt, tableAfter, Framed}
+use Rattle.inplace.specs.InPlace.{stateOf, numberOf, tableAt, tableAfter, Framed}
 
 by-flags : (a b r : Bool) → _≡_ {A = ℕ} (cond a 5 (cond b 7 (cond r 0 7))) 0 → r ≡ true
 by-flags true b r e = absurd (omega arith)
@@ -24,16 +24,16 @@ by-flags false false true e = refl
 by-flags false false false e = absurd (omega arith)
 
 -- a frame that is not refused has room for its shares
-pub room-at-zero : (t : Tally) (by : Shares) → numberOf t by ≡ 0 → roomForAll (stateOf [] (t .totals)) by ≡ true
+pub room-at-zero : (t : Tally) (by : Shares) → numberOf t by ≡ 0 → roomForAll (stateWith [] (t .totals)) by ≡ true
 unfolding numberOf
-room-at-zero t by e = by-flags (t .full) (t .over) (roomForAll (stateOf [] (t .totals)) by) e
+room-at-zero t by e = by-flags (t .full) (t .over) (roomForAll (stateWith [] (t .totals)) by) e
 
 module _ (run : List ℤ) (totals : Totals) (rows : ℕ → Row) (pairs lefts extra objects : ℕ) (d : Float) (after : List ℤ) (r : Tally)
     (e : trialOf (stateOf after (r .totals)) (r .full) (r .over) (r .switches) ≡ trialAfter rows (nextFrame (totals .«frame_id»)) (stateOf run totals) (pairs + lefts))
     (n : ℕ) (q : n ≡ numberOf r (sharesOf pairs lefts extra (r .switches) objects)) where
   whole : closedAt n (stateOf run totals) (stateOf after (raisedTotals (r .totals) (sharesOf pairs lefts extra (r .switches) objects) d))
       ≡ frameOf (stateOf run totals) rows pairs lefts extra objects d
-  unfolding frameOf closed raisedBy roomForAll numberOf raisedTotals
+  unfolding frameOf closed raisedBy roomForAll numberOf
   whole =
       ap (λ (m : ℕ). closedAt m (stateOf run totals) (stateOf after (raisedTotals (r .totals) (sharesOf pairs lefts extra (r .switches) objects) d))) q
       ∙ ap (framed (stateOf run totals) pairs lefts extra objects d) e

@@ -10,7 +10,8 @@ use Rattle.slots.specs.Slots.{noSlot}
 use Rattle.columns.specs.Columns.{slotOf, cellsAt, slotsOf}
 use Rattle.columns.proofs.Laws.{slots-long, slot-at}
 use Rattle.rows.specs.Rows.{newState}
-use Rattle.inplace.specs.InPlace.{stateOf, newTotals}
+use Rattle.frame.specs.Frame.{newTotals}
+use Rattle.inplace.specs.InPlace.{stateOf}
 
 at-replicate : {A : Type 0} (n k : ℕ) (x : A) → getD (replicate n x) k x ≡ x
 at-replicate zero k x = refl

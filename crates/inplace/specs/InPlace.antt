@@ -15,39 +15,14 @@ use Rattle.rows.specs.declared.Trial.{Trial}
 use Rattle.rows.specs.Rows.{rowSpot, rowStep, trialOf, trialAfter}
 use Rattle.frame.specs.declared.Shares.{Shares}
 use Rattle.frame.specs.declared.Booked.{Booked}
-use Rattle.frame.specs.Frame.{nextFrame, roomForAll, frameOf}
-use Rattle.inplace.specs.declared.Totals.{Totals}
+use Rattle.frame.specs.Frame.{nextFrame, stateWith, roomForAll, frameOf}
+use Rattle.frame.specs.declared.Totals.{Totals}
 use Rattle.inplace.specs.declared.Tally.{Tally}
 use Rattle.inplace.specs.declared.Closed.{Closed}
 
 -- THE STATE that a run and its totals stand for
 abbrev pub stateOf : List ℤ → Totals → ExtendedMOTAccumulator
-stateOf run t =
-    record {
-      slots = slotsOf run;
-      used = t .used;
-      «frame_id» = t .«frame_id»;
-      «num_matches» = t .«num_matches»;
-      «num_misses» = t .«num_misses»;
-      «num_false_positives» = t .«num_false_positives»;
-      «num_switches» = t .«num_switches»;
-      «num_objects» = t .«num_objects»;
-      «total_distance» = t .«total_distance»;
-    }
-
--- with a run of zeros these stand for a new state (`new-is`)
-abbrev pub newTotals : Totals
-newTotals =
-    record {
-      used = 0;
-      «frame_id» = pos 0;
-      «num_matches» = pos 0;
-      «num_misses» = pos 0;
-      «num_false_positives» = pos 0;
-      «num_switches» = pos 0;
-      «num_objects» = pos 0;
-      «total_distance» = zero64;
-    }
+stateOf run t = stateWith (slotsOf run) t
 
 -- ---- the rows
 -- the state before row k, and the place where that row is booked
@@ -81,23 +56,9 @@ undone run places log zero = run
 undone run places log (suc k) = undone (put run 256 (getD places k 0) (cellsAt log 64 k)) places log k
 
 -- ---- the frame
--- "adds 1 each accepted call"; "num_objects rises by the number of truth ids"
-unfoldable pub raisedTotals : Totals → Shares → Float → Totals
-raisedTotals t by distance =
-    record {
-      used = t .used;
-      «frame_id» = t .«frame_id» +ℤ pos 1;
-      «num_matches» = t .«num_matches» +ℤ pos (by .matches);
-      «num_misses» = t .«num_misses» +ℤ pos (by .misses);
-      «num_false_positives» = t .«num_false_positives» +ℤ pos (by .«false_positives»);
-      «num_switches» = t .«num_switches» +ℤ pos (by .switches);
-      «num_objects» = t .«num_objects» +ℤ pos (by .objects);
-      «total_distance» = distance;
-    }
-
 -- 5 before 7; the totals do not hang on the run
 unfoldable pub numberOf : Tally → Shares → ℕ
-numberOf t by = cond (t .full) 5 (cond (t .over) 7 (cond (roomForAll (stateOf [] (t .totals)) by) 0 7))
+numberOf t by = cond (t .full) 5 (cond (t .over) 7 (cond (roomForAll (stateWith [] (t .totals)) by) 0 7))
 
 -- the run after a frame: written at 0, number by number what it was beside a refusal
 abbrev pub tableAt : ℕ → (ℕ → Row) → List ℤ → Totals → ℕ → List ℤ

@@ -1,44 +1,13 @@
 // A frame whose pairing is handed in, booked in a lent table, or refused with the table as it came: no state is copied.
 // Ported from norfair-rs, internal/motmetrics/accumulator.rs, which follows py-motmetrics (NOTICE).
 use frame::Shares;
+use frame::Totals;
 ghost use mathlib.Core.Path.{_≡_};
-ghost use mathlib.Core.Bool.{true};
-ghost use mathlib.Core.List.{[]};
 ghost use Prim.Native.Nat.{ℕ, _+_, _<_, _≤_};
 ghost use lib.ListN.{length, getD};
 ghost use Rattle.rows.specs.Rows.{Lies, rowAt};
-ghost use Rattle.frame.specs.Frame.{Few, roomForAll};
-ghost use Rattle.inplace.specs.InPlace.{newTotals, stateOf, Tried, undone, raisedTotals, numberOf, Framed};
-
-// What a state holds beside its table.
-pub struct Totals {
-    pub used: usize,
-    pub frame_id: i32,
-    pub num_matches: i32,
-    pub num_misses: i32,
-    pub num_false_positives: i32,
-    pub num_switches: i32,
-    pub num_objects: i32,
-    pub total_distance: f64,
-}
-
-impl Totals {
-    // Frame 0, and nothing counted: with a table of zeros a new state.
-    pub fn new() -> Self
-        ensures { λ r. ⌜ r ≡ newTotals ⌝ }
-    {
-        Self {
-            used: 0,
-            frame_id: 0,
-            num_matches: 0,
-            num_misses: 0,
-            num_false_positives: 0,
-            num_switches: 0,
-            num_objects: 0,
-            total_distance: 0.0,
-        }
-    }
-}
+ghost use Rattle.frame.specs.Frame.{Few};
+ghost use Rattle.inplace.specs.InPlace.{Tried, undone, numberOf, Framed};
 
 // What came of a trial, beside the table: full where a new id found no place, over where a count would have passed.
 pub struct Tally {
@@ -125,36 +94,6 @@ fn undo(run: &mut [i32], places: &[usize], log: &[i32], n: usize)
     }
 }
 
-// Whether each counter can take its share of a frame.
-fn room_for_all(t: Totals, by: Shares) -> bool
-    requires { ⌜ Few by ⌝ }
-    ensures { λ r. ⌜ r ≡ roomForAll (stateOf [] t) by ⌝ }
-{
-    let a = counts::room_for(t.frame_id, 1);
-    let b = counts::room_for(t.num_matches, by.matches);
-    let c = counts::room_for(t.num_misses, by.misses);
-    let d = counts::room_for(t.num_false_positives, by.false_positives);
-    let e = counts::room_for(t.num_switches, by.switches);
-    let f = counts::room_for(t.num_objects, by.objects);
-    frame::both(frame::all_three(a, b, c), frame::all_three(d, e, f))
-}
-
-fn raised_by(t: Totals, by: Shares, distance: f64) -> Totals
-    requires { ⌜ Few by ⌝ }
-    requires { ⌜ roomForAll (stateOf [] t) by ≡ true ⌝ }
-    ensures { λ r. ⌜ r ≡ raisedTotals t by distance ⌝ }
-{
-    let mut u = t;
-    u.frame_id = counts::add(t.frame_id, 1);
-    u.num_matches = counts::add(t.num_matches, by.matches);
-    u.num_misses = counts::add(t.num_misses, by.misses);
-    u.num_false_positives = counts::add(t.num_false_positives, by.false_positives);
-    u.num_switches = counts::add(t.num_switches, by.switches);
-    u.num_objects = counts::add(t.num_objects, by.objects);
-    u.total_distance = distance;
-    u
-}
-
 // 5, and then 7, by what came of the trial.
 fn number_of(t: Tally, by: Shares) -> u32
     requires { ⌜ Few by ⌝ }
@@ -167,7 +106,7 @@ fn number_of(t: Tally, by: Shares) -> u32
         return 7;
     }
     let totals = t.totals;
-    if !room_for_all(totals, by) {
+    if !frame::room_for_all(totals, by) {
         return 7;
     }
     0
@@ -225,7 +164,7 @@ pub fn book_frame(
         };
     }
     let booked = t.totals;
-    let raised = raised_by(booked, by, distance);
+    let raised = frame::raised_by(booked, by, distance);
     Closed {
         number: 0,
         totals: raised,

@@ -12,7 +12,7 @@ pub struct Updated {
 }
 
 // 2 for too many ids on a side, 3 for distances that are not rows times columns.
-fn shape_no(rows: usize, columns: usize, size: usize) -> u32
+pub fn shape_no(rows: usize, columns: usize, size: usize) -> u32
     ensures { λ r. ⌜ r ≡ shapeNo rows columns size ⌝ }
 {
     if rows > 64 {

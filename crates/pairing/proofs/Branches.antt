@@ -15,8 +15,9 @@ use Rattle.optimize.specs.Answer.{rowsAlone}
 use Rattle.solver.specs.Solution.{solutionOf}
 use Rattle.solver.proofs.Lists.{solution-alone, alone-at}
 use Rattle.pairing.specs.declared.Pairing.{Pairing}
-use Rattle.pairing.specs.Pairing.{shapeNo, pairingNo, sumOf, noPairs, pairsIn, pairedOf, framePairs, pairingOf}
-use Rattle.pairing.proofs.Numbers.{Side, sides}
+use Rattle.shape.specs.Shape.{shapeNo}
+use Rattle.shape.proofs.Sides.{Side, sides}
+use Rattle.pairing.specs.Pairing.{pairingNo, sumOf, noPairs, pairsIn, pairedOf, framePairs, pairingOf}
 use Rattle.lent_square.proofs.Taken.{taken}
 use Rattle.pairing.proofs.Ways.{accept}
 

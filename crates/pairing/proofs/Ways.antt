@@ -14,8 +14,10 @@ use Rattle.matrix.specs.Matrix.{matrixOf, overwrite, matrixAfter, distanceMatri
 use Rattle.matrix.specs.declared.Measure.the-variants.{Away}
 use Rattle.matrix.proofs.Laws.{length-matrix, or-first}
 use Rattle.pairing.specs.declared.Pairing.{Pairing}
-use Rattle.pairing.specs.Pairing.{shapeNo, pairingNo, noPairs, pairedOf, framePairs, pairingAt, pairingOf}
-use Rattle.pairing.proofs.Numbers.{Side, sides, boxes-no, room, or-next}
+use Rattle.shape.specs.Shape.{shapeNo}
+use Rattle.shape.proofs.Sides.{Side, sides, room, or-next}
+use Rattle.pairing.specs.Pairing.{pairingNo, noPairs, pairedOf, framePairs, pairingAt, pairingOf}
+use Rattle.pairing.proofs.Numbers.{boxes-no}
 
 refused : (n : ℕ) (p : Pairing) → (n ≡ 0 → ⊥) → noPairs n 0 zero64 ≡ pairingAt n p
 refused zero p x = absurd (x refl)

@@ -1,33 +1,22 @@
 -- Document 01, "Lifecycles and events" and refusals 2, 3 and 4: how a frame's truth boxes are paired with its predictions.
-use mathlib.Core.Bool.{Bool, true, false, not, cond, _||_}
+use mathlib.Core.Bool.{cond}
 use mathlib.Core.List.{List, map}
 use mathlib.Core.Path.{_≡_}
-use Prim.Native.Nat.{ℕ, zero, suc, _+_, _*_, _/_, _%_, _<_, _≤_}
-use lib.Dec.{ltb, eqb}
+use Prim.Native.Nat.{ℕ, zero, suc}
+use lib.Dec.{eqb}
 use lib.ListN.{length, getD, replicate}
 use lib.Ieee.{Float, add, binary64}
 use Rattle.floats.specs.Float.{zero64}
 use Rattle.matrix.specs.Matrix.{matrixOf, anyReadBad, orNo}
 use Rattle.matrix.specs.declared.Measure.the-variants.{Away}
+use Rattle.shape.specs.Shape.{shapeNo}
 use Rattle.start.specs.Steps.{entry}
 use Rattle.optimize.specs.declared.Assignment.{Assignment}
 use Rattle.optimize.specs.declared.AssignmentResult.{AssignmentResult}
 use Rattle.solver.specs.Solution.{solutionOf}
 use Rattle.pairing.specs.declared.Pairing.{Pairing}
 
--- ---- the numbers 2, 3 and 4
--- 2: more than 64 ids, or whole boxes, on a side
-unfoldable pub sizeNo : ℕ → ℕ → ℕ
-sizeNo ids floats = cond (ltb 64 ids || ltb 64 (floats / 4)) 2 0
-
--- 3: ids and boxes differ in number, or the run is not a multiple of four long
-unfoldable pub fitNo : ℕ → ℕ → ℕ
-fitNo ids floats = cond (not (eqb ids (floats / 4)) || not (eqb (floats % 4) 0)) 3 0
-
--- both sides' 2 before either's 3
-unfoldable pub shapeNo : ℕ → ℕ → ℕ → ℕ → ℕ
-shapeNo gtIds gt predIds pred = orNo (sizeNo gtIds gt) (orNo (sizeNo predIds pred) (orNo (fitNo gtIds gt) (fitNo predIds pred)))
-
+-- ---- the numbers 2 and 3 by the shape, then 4
 -- 4: a bad box, where both sides have one
 unfoldable pub pairingNo : ℕ → List Float → ℕ → List Float → ℕ
 pairingNo gtIds gt predIds pred = orNo (shapeNo gtIds (length gt) predIds (length pred)) (cond (anyReadBad gt pred) 4 0)

@@ -1,11 +1,12 @@
-// How a frame's truth boxes are paired with its predictions, and the numbers 2, 3 and 4 of a frame.
+// How a frame's truth boxes are paired with its predictions, or which of the numbers 2, 3 and 4 it gets.
 // Ported from norfair-rs, internal/motmetrics/accumulator.rs, which follows py-motmetrics (NOTICE).
 use optimize::Assignment;
 ghost use mathlib.Core.Path.{_≡_};
 ghost use Prim.Native.Nat.{ℕ, _+_, _*_, _<_, _≤_};
 ghost use lib.ListN.{length, getD, replicate};
 ghost use Rattle.floats.specs.Float.{zero64};
-ghost use Rattle.pairing.specs.Pairing.{sizeNo, fitNo, shapeNo, rowsOf, colsOf, sumOf, pairedOf, noPairs, pairingOf};
+ghost use Rattle.shape.specs.Shape.{shapeNo};
+ghost use Rattle.pairing.specs.Pairing.{rowsOf, colsOf, sumOf, pairedOf, noPairs, pairingOf};
 
 // The pairs by row and column, the rows that are left, and how many predictions are extra; zeros beyond each count.
 // The distance is the total so far with that of every pair added, in order.
@@ -18,51 +19,6 @@ pub struct Pairing {
     pub lefts: usize,
     pub extra: usize,
     pub distance: f64,
-}
-
-// 2, or 0.
-fn size_no(ids: usize, floats: usize) -> u32
-    ensures { λ r. ⌜ r ≡ sizeNo ids floats ⌝ }
-{
-    if ids > 64 {
-        return 2;
-    }
-    if floats / 4 > 64 {
-        return 2;
-    }
-    0
-}
-
-// 3, or 0.
-fn fit_no(ids: usize, floats: usize) -> u32
-    ensures { λ r. ⌜ r ≡ fitNo ids floats ⌝ }
-{
-    if ids != floats / 4 {
-        return 3;
-    }
-    if floats % 4 != 0 {
-        return 3;
-    }
-    0
-}
-
-// 2, 3, or 0: what goes by the lengths alone.
-fn shape_no(gt_ids: usize, gt: usize, pred_ids: usize, pred: usize) -> u32
-    ensures { λ r. ⌜ r ≡ shapeNo «gt_ids» gt «pred_ids» pred ⌝ }
-{
-    let a = size_no(gt_ids, gt);
-    if a != 0 {
-        return a;
-    }
-    let b = size_no(pred_ids, pred);
-    if b != 0 {
-        return b;
-    }
-    let c = fit_no(gt_ids, gt);
-    if c != 0 {
-        return c;
-    }
-    fit_no(pred_ids, pred)
 }
 
 // The rows of the pairs. All 64 places: those beyond the pairs are 0 in the solver's list.
@@ -205,7 +161,7 @@ pub fn pair_with(
     requires { ⌜ now square ≡ replicate 4096 zero64 ⌝ }
     ensures { λ r. ⌜ (r ≡ pairingOf «gt_ids» (now («gt_bboxes» .entry)) «pred_ids» (now («pred_bboxes» .entry)) threshold total) × (now (square .exit) ≡ replicate 4096 zero64) ⌝ }
 {
-    let shape = shape_no(gt_ids, gt_bboxes.len(), pred_ids, pred_bboxes.len());
+    let shape = shape::shape_no(gt_ids, gt_bboxes.len(), pred_ids, pred_bboxes.len());
     if shape != 0 {
         return no_pairs(shape, 0, 0.0);
     }

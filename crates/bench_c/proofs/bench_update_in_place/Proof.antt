@@ -6,7 +6,7 @@ use lib.Dec.{lit≤}
 use lib.ListN.{length, replicate}
 use lib.Ieee.{ofBits}
 use Rattle.floats.specs.Float.{zero64}
-use Rattle.inplace.specs.declared.Totals.{Totals}
+use Rattle.frame.specs.declared.Totals.{Totals}
 use Rattle.extended_in_place.proofs.Kept.{used-kept}
 use borrow.Author.Needs.{needs}
 use Rattle.bench_c.proofs.bench_update_in_place.Statement.{statement}

@@ -1,8 +1,10 @@
 -- `frame::room_for_all` meets its contract. Assumes nothing.
+use mathlib.Core.List.{[]}
 use lib.IntN.{ℤ}
 use Rattle.counts.specs.Counts.{roomFor}
 use Rattle.counts.proofs.Ids.{told}
-use Rattle.frame.proofs.Totals.{room-is}
+use Rattle.frame.proofs.Counters.{room-is}
+use Rattle.frame.specs.Frame.{stateWith}
 use borrow.Author.Needs.{needs}
 use Rattle.frame.proofs.room_for_all.Statement.{statement}
 use Rattle.frame.proofs.room_for_all.Tie as tie
@@ -40,13 +42,13 @@ returns c =
     let s = r .before .before .before .before .before .before .before .before .before .before .before .before in
     let t = s .args .t in
     let by = s .args .by in
-    room-is t by _ _ _ _ _ _ _ _ _
-    (told (λ (z : ℤ). roomFor z 1) (t .«frame_id») (r .before .before .before .before .before .before .before .before .before .before .before .struct-told .given .1 .1 .0 .1) (r .before .before .before .before .before .before .before .before .before .before .room-for .ensures))
-    (told (λ (z : ℤ). roomFor z (by .matches)) (t .«num_matches») (r .before .before .before .before .before .before .before .before .before .struct-told2 .given .1 .1 .1 .0 .1) (r .before .before .before .before .before .before .before .before .room-for2 .ensures))
-    (told (λ (z : ℤ). roomFor z (by .misses)) (t .«num_misses») (r .before .before .before .before .before .before .before .struct-told3 .given .1 .1 .1 .1 .0 .1) (r .before .before .before .before .before .before .room-for3 .ensures))
-    (told (λ (z : ℤ). roomFor z (by .«false_positives»)) (t .«num_false_positives») (r .before .before .before .before .before .struct-told4 .given .1 .1 .1 .1 .1 .0 .1) (r .before .before .before .before .room-for4 .ensures))
-    (told (λ (z : ℤ). roomFor z (by .switches)) (t .«num_switches») (r .before .before .before .struct-told5 .given .1 .1 .1 .1 .1 .1 .0 .1) (r .before .before .room-for5 .ensures))
-    (told (λ (z : ℤ). roomFor z (by .objects)) (t .«num_objects») (r .before .struct-told6 .given .1 .1 .1 .1 .1 .1 .1 .0 .1) (r .room-for6 .ensures))
+    room-is (stateWith [] t) by _ _ _ _ _ _ _ _ _
+    (told (λ (z : ℤ). roomFor z 1) (t .«frame_id») (r .before .before .before .before .before .before .before .before .before .before .before .struct-told .given .1 .0 .1) (r .before .before .before .before .before .before .before .before .before .before .room-for .ensures))
+    (told (λ (z : ℤ). roomFor z (by .matches)) (t .«num_matches») (r .before .before .before .before .before .before .before .before .before .struct-told2 .given .1 .1 .0 .1) (r .before .before .before .before .before .before .before .before .room-for2 .ensures))
+    (told (λ (z : ℤ). roomFor z (by .misses)) (t .«num_misses») (r .before .before .before .before .before .before .before .struct-told3 .given .1 .1 .1 .0 .1) (r .before .before .before .before .before .before .room-for3 .ensures))
+    (told (λ (z : ℤ). roomFor z (by .«false_positives»)) (t .«num_false_positives») (r .before .before .before .before .before .struct-told4 .given .1 .1 .1 .1 .0 .1) (r .before .before .before .before .room-for4 .ensures))
+    (told (λ (z : ℤ). roomFor z (by .switches)) (t .«num_switches») (r .before .before .before .struct-told5 .given .1 .1 .1 .1 .1 .0 .1) (r .before .before .room-for5 .ensures))
+    (told (λ (z : ℤ). roomFor z (by .objects)) (t .«num_objects») (r .before .struct-told6 .given .1 .1 .1 .1 .1 .1 .0 .1) (r .room-for6 .ensures))
     (c .before .before .all-three .ensures) (c .before .all-three2 .ensures) (c .both .ensures)
 
 pub room-for-all-spec : {M : Type 1} → statement M

@@ -1,7 +1,7 @@
 -- `frame::totals_sound` meets its contract. Assumes nothing.
 use lib.Signed.{nonNeg}
 use Rattle.counts.proofs.Ids.{told}
-use Rattle.frame.proofs.Totals.{signs-are}
+use Rattle.frame.proofs.Counters.{signs-are}
 use borrow.Author.Needs.{needs}
 use Rattle.frame.proofs.totals_sound.Statement.{statement}
 use Rattle.frame.proofs.totals_sound.Tie as tie

@@ -1,6 +1,6 @@
 -- `greedy_pairs::list_at_least` meets its contract. The front of order lists the places below i that pass. Assumes nothing.
 use borrow.Author.Needs.{needs}
-use mathlib.Core.Path.{_≡_, sym, _∙_}
+use mathlib.Core.Path.{_≡_, refl, sym, _∙_}
 use mathlib.Core.Logic.{⊎-elim}
 use Prim.Native.Nat.{_-_, _<_, _≤_}
 use native.Mathlib.Omega.{arith}
@@ -11,13 +11,13 @@ use Rattle.greedy_pairs.proofs.list_at_least.Statement.{statement}
 use Rattle.greedy_pairs.proofs.list_at_least.Tie as tie
 
 abbrev Inv-loop : tie.InvT-loop
-Inv-loop shares threshold order₀ used₀ i₀ order used i = law.Listing (le threshold) shares order used i
+Inv-loop shares threshold order₀ used₀ i₀ order used i = law.Listing (le threshold) shares (length order₀) order used i
 
 abbrev μ-loop : tie.MeasureT-loop
 μ-loop shares threshold order₀ used₀ i₀ order used i = length shares - i
 
 loop-holds : tie.Need-loop-holds Inv-loop μ-loop
-loop-holds c = law.starts (le _) _ _ (c .pre .1)
+loop-holds c = law.starts (le _) _ _ _ refl
 
 mul-if1 : tie.Need-mul-if1 Inv-loop μ-loop
 mul-if1 c = search needs
@@ -31,8 +31,8 @@ cast-order c = search needs
 mul-order : tie.Need-mul-order Inv-loop μ-loop
 mul-order c = search needs
 
-element-write-order : tie.Need-element-write-order Inv-loop μ-loop
-element-write-order c = search needs
+slice-write-order : tie.Need-slice-write-order Inv-loop μ-loop
+slice-write-order c = search needs
 
 add-used : tie.Need-add-used Inv-loop μ-loop
 add-used c = search needs
@@ -50,16 +50,19 @@ loop-again c =
     let s = i .before .before in
     let d = s .args .shares .now in
     ⊎-elim
-    (λ v. law.lists (le (s .args .threshold)) d (l .order) (l .used) (l .i) (l .inv) (c .if1 .order) (c .if1 .used) (i .loop-test .taken) (s .pre .0) (v .0 .taken) (v .1) (v .2))
-    (λ v. law.passes-by (le (s .args .threshold)) d (l .order) (l .used) (l .i) (l .inv) (c .if1 .order) (c .if1 .used) (i .loop-test .taken) (v .0 .left) (v .1) (v .2))
+    (λ v. law.lists (le (s .args .threshold)) d (length (s .args .order .now)) (l .order) (l .used) (l .i) (l .inv) (c .if1 .order) (c .if1 .used) (i .loop-test .taken) (s .pre .1) (v .0 .taken) (v .1) (v .2))
+    (λ v. law.passes-by (le (s .args .threshold)) d (length (s .args .order .now)) (l .order) (l .used) (l .i) (l .inv) (c .if1 .order) (c .if1 .used) (i .loop-test .taken) (v .0 .left) (v .1) (v .2))
     (c .if1 .came)
+
+same-length : tie.Need-same-length Inv-loop μ-loop
+same-length c = c .before .loop .inv .long
 
 returns : tie.Need-returns Inv-loop μ-loop
 returns c =
     let l = c .before .loop in
     let s = c .before .before in
     let h = l .inv .within in
-    law.done (le (s .args .threshold)) (s .args .shares .now) (l .order) (l .used) (l .i) (l .inv) (omega arith)
+    law.done (le (s .args .threshold)) (s .args .shares .now) (length (s .args .order .now)) (l .order) (l .used) (l .i) (l .inv) (omega arith)
 
 pub list-at-least-spec : {M : Type 1} → statement M
 list-at-least-spec =
@@ -72,9 +75,10 @@ list-at-least-spec =
     shared-slice-read-if1
     cast-order
     mul-order
-    element-write-order
+    slice-write-order
     add-used
     add-i
     loop-less
     loop-again
+    same-length
     returns)

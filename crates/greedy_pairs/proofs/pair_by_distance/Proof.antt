@@ -1,62 +1,48 @@
 -- `greedy_pairs::pair_by_distance` meets its contract. Assumes nothing.
-use mathlib.Core.Path.{refl, ap, _∙_}
-use Rattle.floats.specs.Float.{isFinite}
-use Rattle.sorting.specs.Sort.{sortOf}
-use Rattle.greedy.specs.Greedy.{pairingOf}
-use Rattle.greedy_pairs.specs.Pairs.{byDistance}
-use Rattle.greedy_pairs.proofs.Listing.{finite-number}
 use Rattle.greedy_pairs.proofs.Frames as law
+use borrow.Author.Needs.{needs}
 use Rattle.greedy_pairs.proofs.pair_by_distance.Statement.{statement}
 use Rattle.greedy_pairs.proofs.pair_by_distance.Tie as tie
 
-list-finite-requires : tie.Need-list-finite-requires
-list-finite-requires c κs =
-    let s = c .before .before in
-    (law.small (s .args .n) (s .args .w) _ (s .pre .0) (s .pre .1) (s .pre .2), refl)
+slice-aggregate-by-distance-in : tie.Need-slice-aggregate-by-distance-in
+slice-aggregate-by-distance-in c = search needs
 
-array-borrow-prefix-order : tie.Need-array-borrow-prefix-order
-array-borrow-prefix-order c =
-    let s = c .before .before .before in
-    law.listed-fits isFinite (s .args .distances .now) (s .args .n) (s .args .w) (s .pre .0) (s .pre .1) (s .pre .2)
-    (c .list-finite .last .1 .0) (c .list-finite .result) (c .list-finite .ensures .0) (c .list-finite .ensures .1)
-
-slice-aggregate-pair-listed : tie.Need-slice-aggregate-pair-listed
-slice-aggregate-pair-listed c =
-    let f = c .before in
-    let s = f .before .before .before in
-    law.listed-long isFinite (s .args .distances .now) (s .args .n) (s .args .w) (s .pre .0) (s .pre .1) (s .pre .2)
-    (f .list-finite .last .1 .0) (f .list-finite .result) (f .list-finite .ensures .0) (f .list-finite .ensures .1)
-
-pair-listed-requires : tie.Need-pair-listed-requires
-pair-listed-requires c κs =
-    let f = c .before in
-    let s = f .before .before .before in
-    let d = s .args .distances .now in
-    let a = f .list-finite .last .1 .0 in
-    let u = f .list-finite .result in
-    let eu = f .list-finite .ensures .0 in
-    let ea = f .list-finite .ensures .1 in (
-      s .pre .0,
-      s .pre .1,
-      law.listed-few isFinite d (s .args .n) (s .args .w) (s .pre .0) (s .pre .1) (s .pre .2) a u eu ea,
-      law.listed-numbers isFinite d (s .args .n) (s .args .w) (s .pre .0) (s .pre .1) (s .pre .2) a u eu ea finite-number,
-      law.listed-inside isFinite d (s .args .n) (s .args .w) (s .pre .0) (s .pre .1) (s .pre .2) a u eu ea,
-    )
+by-distance-in-requires : tie.Need-by-distance-in-requires
+by-distance-in-requires c κs = search needs
 
 returns : tie.Need-returns
-unfolding byDistance
-returns c =
-    let p = c .before in
-    let f = p .before .before in
-    let s = f .before .before .before in
-    p .pair-listed .ensures ∙ ap (λ l. pairingOf (s .args .w) (sortOf (s .args .distances .now) l)) (f .list-finite .ensures .1)
+returns c = search needs
+
+slice-aggregate-by-distance-in-2 : tie.Need-slice-aggregate-by-distance-in-2
+slice-aggregate-by-distance-in-2 c = search needs
+
+by-distance-in-requires-2 : tie.Need-by-distance-in-requires-2
+by-distance-in-requires-2 c κs = search needs
+
+returns-2 : tie.Need-returns-2
+returns-2 c = search needs
+
+slice-aggregate-by-distance-in-3 : tie.Need-slice-aggregate-by-distance-in-3
+slice-aggregate-by-distance-in-3 c = search needs
+
+by-distance-in-requires-3 : tie.Need-by-distance-in-requires-3
+by-distance-in-requires-3 c κs =
+    let s = c .before .before .before .before in
+    (s .pre .0, s .pre .1, s .pre .2, law.small (s .args .n) (s .args .w) _ (s .pre .0) (s .pre .1) (s .pre .2))
+
+returns-3 : tie.Need-returns-3
+returns-3 c = search needs
 
 pub pair-by-distance-spec : {M : Type 1} → statement M
 pair-by-distance-spec =
     tie.close
     (tie.spec
-    list-finite-requires
-    array-borrow-prefix-order
-    slice-aggregate-pair-listed
-    pair-listed-requires
-    returns)
+    slice-aggregate-by-distance-in
+    by-distance-in-requires
+    returns
+    slice-aggregate-by-distance-in-2
+    by-distance-in-requires-2
+    returns-2
+    slice-aggregate-by-distance-in-3
+    by-distance-in-requires-3
+    returns-3)

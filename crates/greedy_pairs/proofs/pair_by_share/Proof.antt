@@ -1,91 +1,60 @@
--- `greedy_pairs::pair_by_share` meets its contract. What the sort is handed is the negated IoUs, and what is handed back 1.0 less each. Assumes nothing.
-use borrow.Author.Needs.{needs}
-use mathlib.Core.Path.{refl, ap, subst, sym, _∙_}
-use mathlib.Core.List.{map}
-use lib.ListN.{take}
-use lib.Ieee.{binary64, neg, add, sub, le}
-use Rattle.floats.specs.Float.{one64}
-use Rattle.sorting.specs.Order.{Numbers}
-use Rattle.sorting.specs.Sort.{sortOf}
-use Rattle.sorting.proofs.Falls.{neg-numbers}
-use Rattle.greedy.specs.Greedy.{pairingOf}
-use Rattle.greedy_pairs.specs.Pairs.{byShare}
-use Rattle.greedy_pairs.proofs.Listing.{share-number}
-use Rattle.greedy_pairs.proofs.InPlace.{less-each}
+-- `greedy_pairs::pair_by_share` meets its contract. Assumes nothing.
 use Rattle.greedy_pairs.proofs.Frames as law
+use borrow.Author.Needs.{needs}
 use Rattle.greedy_pairs.proofs.pair_by_share.Statement.{statement}
 use Rattle.greedy_pairs.proofs.pair_by_share.Tie as tie
 
-list-at-least-requires : tie.Need-list-at-least-requires
-list-at-least-requires c κs =
-    let s = c .before .before .before in
-    (law.small (s .args .n) (s .args .w) _ (s .pre .0) (s .pre .1) (s .pre .2), refl)
+slice-aggregate-by-share-in : tie.Need-slice-aggregate-by-share-in
+slice-aggregate-by-share-in c = search needs
 
-negate-requires : tie.Need-negate-requires
-negate-requires c κs = search needs
-
-array-borrow-prefix-order : tie.Need-array-borrow-prefix-order
-array-borrow-prefix-order c =
-    let f = c .before .before .before .before .before in
-    let s = f .before .before .before .before in
-    law.listed-fits (le (s .args .threshold)) (s .args .shares .now) (s .args .n) (s .args .w) (s .pre .0) (s .pre .1) (s .pre .2)
-    (f .list-at-least .last .1 .1 .0) (f .list-at-least .result) (f .list-at-least .ensures .0) (f .list-at-least .ensures .1)
-
-slice-aggregate-pair-listed : tie.Need-slice-aggregate-pair-listed
-slice-aggregate-pair-listed c =
-    let f = c .before .before .before .before .before .before in
-    let s = f .before .before .before .before in
-    law.listed-long (le (s .args .threshold)) (s .args .shares .now) (s .args .n) (s .args .w) (s .pre .0) (s .pre .1) (s .pre .2)
-    (f .list-at-least .last .1 .1 .0) (f .list-at-least .result) (f .list-at-least .ensures .0) (f .list-at-least .ensures .1)
-
-pair-listed-requires : tie.Need-pair-listed-requires
-pair-listed-requires c κs =
-    let g = c .before .before .before .before in
-    let f = g .before .before in
-    let s = f .before .before .before .before in
-    let i = s .args .shares .now in
-    let t = s .args .threshold in
-    let a = f .list-at-least .last .1 .1 .0 in
-    let u = f .list-at-least .result in
-    let eu = f .list-at-least .ensures .0 in
-    let ea = f .list-at-least .ensures .1 in (
-      s .pre .0,
-      s .pre .1,
-      law.listed-few (le t) i (s .args .n) (s .args .w) (s .pre .0) (s .pre .1) (s .pre .2) a u eu ea,
-      subst (λ keys. Numbers keys (take u a)) (sym (g .negate .ensures))
-          (neg-numbers i (take u a) (law.listed-numbers (le t) i (s .args .n) (s .args .w) (s .pre .0) (s .pre .1) (s .pre .2) a u eu ea (share-number t))),
-      law.listed-inside (le t) i (s .args .n) (s .args .w) (s .pre .0) (s .pre .1) (s .pre .2) a u eu ea,
-    )
-
-take-from-one-requires : tie.Need-take-from-one-requires
-take-from-one-requires c κs = search needs
+by-share-in-requires : tie.Need-by-share-in-requires
+by-share-in-requires c κs = search needs
 
 same-length : tie.Need-same-length
 same-length c = search needs
 
 returns : tie.Need-returns
-unfolding byShare
-returns c =
-    let o = c .before .before in
-    let p = o .before .before .before in
-    let g = p .before .before .before .before .before in
-    let f = g .before .before in
-    let s = f .before .before .before .before in (
-      p .pair-listed .ensures
-          ∙ ap (λ keys. pairingOf (s .args .w) (sortOf keys (take (f .list-at-least .result) (f .list-at-least .last .1 .1 .0)))) (g .negate .ensures)
-          ∙ ap (λ l. pairingOf (s .args .w) (sortOf (map neg (s .args .shares .now)) l)) (f .list-at-least .ensures .1),
-      o .take-from-one .ensures ∙ ap (map (add binary64 one64)) (g .negate .ensures) ∙ less-each (s .args .shares .now),
-    )
+returns c = search needs
+
+slice-aggregate-by-share-in-2 : tie.Need-slice-aggregate-by-share-in-2
+slice-aggregate-by-share-in-2 c = search needs
+
+by-share-in-requires-2 : tie.Need-by-share-in-requires-2
+by-share-in-requires-2 c κs = search needs
+
+same-length-2 : tie.Need-same-length-2
+same-length-2 c = search needs
+
+returns-2 : tie.Need-returns-2
+returns-2 c = search needs
+
+slice-aggregate-by-share-in-3 : tie.Need-slice-aggregate-by-share-in-3
+slice-aggregate-by-share-in-3 c = search needs
+
+by-share-in-requires-3 : tie.Need-by-share-in-requires-3
+by-share-in-requires-3 c κs =
+    let s = c .before .before .before .before .before in
+    (s .pre .0, s .pre .1, s .pre .2, law.small (s .args .n) (s .args .w) _ (s .pre .0) (s .pre .1) (s .pre .2))
+
+same-length-3 : tie.Need-same-length-3
+same-length-3 c = search needs
+
+returns-3 : tie.Need-returns-3
+returns-3 c = search needs
 
 pub pair-by-share-spec : {M : Type 1} → statement M
 pair-by-share-spec =
     tie.close
     (tie.spec
-    list-at-least-requires
-    negate-requires
-    array-borrow-prefix-order
-    slice-aggregate-pair-listed
-    pair-listed-requires
-    take-from-one-requires
+    slice-aggregate-by-share-in
+    by-share-in-requires
     same-length
-    returns)
+    returns
+    slice-aggregate-by-share-in-2
+    by-share-in-requires-2
+    same-length-2
+    returns-2
+    slice-aggregate-by-share-in-3
+    by-share-in-requires-3
+    same-length-3
+    returns-3)

@@ -1,8 +1,8 @@
--- `inplace::Totals::new` meets its contract. Assumes nothing.
+-- `frame::Totals::new` meets its contract. Assumes nothing.
 use mathlib.Core.Path.{refl}
 use lib.Ieee.{ofBits}
-use Rattle.inplace.proofs.Totals.new.Statement.{statement}
-use Rattle.inplace.proofs.Totals.new.Tie as tie
+use Rattle.frame.proofs.Totals.new.Statement.{statement}
+use Rattle.frame.proofs.Totals.new.Tie as tie
 
 returns : tie.Need-returns
 unfolding ofBits

@@ -1,14 +1,12 @@
 -- The six counters of a frame, each by itself. Assumes nothing.
 use mathlib.Core.Path.{_≡_, _∙_}
 use mathlib.Core.Bool.{Bool, true, _&&_}
-use lib.IntN.{ℤ, pos, _+ℤ_}
 use lib.Signed.{nonNeg}
-use lib.Ieee.{Float}
 use Rattle.counts.specs.Counts.{roomFor}
 use Rattle.counts.proofs.Tests.{both, all-three}
 use Rattle.rows.specs.declared.ExtendedMOTAccumulator.{ExtendedMOTAccumulator}
 use Rattle.frame.specs.declared.Shares.{Shares}
-use Rattle.frame.specs.Frame.{totalsSound, roomForAll, raisedBy}
+use Rattle.frame.specs.Frame.{totalsSound, roomForAll}
 
 module _ (t : ExtendedMOTAccumulator) (by : Shares) where
   abbrev frames : Bool
@@ -40,15 +38,6 @@ module _ (t : ExtendedMOTAccumulator) (by : Shares) where
   rooms h =
       let p = both (frames && (matches && misses)) (extras && (switched && objects)) h in
       (all-three frames matches misses (p .0), all-three extras switched objects (p .1))
-
-  pub raised-is : (d : Float) (n₁ n₂ n₃ n₄ n₅ n₆ : ℤ) → n₁ ≡ t .«frame_id» +ℤ pos 1 → n₂ ≡ t .«num_matches» +ℤ pos (by .matches)
-      → n₃ ≡ t .«num_misses» +ℤ pos (by .misses) → n₄ ≡ t .«num_false_positives» +ℤ pos (by .«false_positives»)
-      → n₅ ≡ t .«num_switches» +ℤ pos (by .switches) → n₆ ≡ t .«num_objects» +ℤ pos (by .objects)
-      → record { slots = t .slots; used = t .used; «frame_id» = n₁; «num_matches» = n₂; «num_misses» = n₃; «num_false_positives» = n₄; «num_switches» = n₅; «num_objects» = n₆; «total_distance» = d }
-      ≡ raisedBy t by d
-  unfolding raisedBy
-  raised-is d n₁ n₂ n₃ n₄ n₅ n₆ p₁ p₂ p₃ p₄ p₅ p₆ =
-      λ i. record { slots = t .slots; used = t .used; «frame_id» = p₁ i; «num_matches» = p₂ i; «num_misses» = p₃ i; «num_false_positives» = p₄ i; «num_switches» = p₅ i; «num_objects» = p₆ i; «total_distance» = d }
 
 -- ---- refusal 1 for the counters
 pub signs-are : (t : ExtendedMOTAccumulator) (a b c d e f x y r : Bool) → a ≡ nonNeg (t .«frame_id») → b ≡ nonNeg (t .«num_matches») → c ≡ nonNeg (t .«num_misses»)

@@ -1,0 +1,57 @@
+-- `bench_c::metrics::bench_metrics_update_sound` is safe and ends. Assumes nothing.
+use borrow.Author.Needs.{needs}
+use Rattle.bench_c.proofs.metrics.bench_metrics_update_sound.Statement.{statement}
+use Rattle.bench_c.proofs.metrics.bench_metrics_update_sound.Tie as tie
+
+abbrev Inv-loop : tie.InvT-loop
+Inv-loop gt-ids hyp-ids gt-boxes hyp-boxes iou-threshold times s₀ left₀ s left = Unit {0}
+
+abbrev μ-loop : tie.MeasureT-loop
+μ-loop gt-ids hyp-ids gt-boxes hyp-boxes iou-threshold times s₀ left₀ s left = left
+
+new-requires : tie.Need-new-requires Inv-loop μ-loop
+new-requires c κs = search needs
+
+loop-holds : tie.Need-loop-holds Inv-loop μ-loop
+loop-holds c = search needs
+
+returns : tie.Need-returns Inv-loop μ-loop
+returns c = search needs
+
+returns-2 : tie.Need-returns-2 Inv-loop μ-loop
+returns-2 c = search needs
+
+update-sound-requires : tie.Need-update-sound-requires Inv-loop μ-loop
+update-sound-requires c κs = search needs
+
+sub-left : tie.Need-sub-left Inv-loop μ-loop
+sub-left c = search needs
+
+loop-less : tie.Need-loop-less Inv-loop μ-loop
+loop-less c = search needs
+
+loop-again : tie.Need-loop-again Inv-loop μ-loop
+loop-again c = search needs
+
+returns-3 : tie.Need-returns-3 Inv-loop μ-loop
+returns-3 c = search needs
+
+returns-4 : tie.Need-returns-4 Inv-loop μ-loop
+returns-4 c = search needs
+
+pub bench-metrics-update-sound-spec : {M : Type 1} → statement M
+bench-metrics-update-sound-spec =
+    tie.close
+    (tie.spec
+    Inv-loop
+    μ-loop
+    new-requires
+    loop-holds
+    returns
+    returns-2
+    returns-3
+    update-sound-requires
+    sub-left
+    loop-less
+    loop-again
+    returns-4)
