@@ -14,10 +14,12 @@ COMMANDS = {
     "second": [sys.executable, "-B", str(HERE / "second" / "main.py")],
     "rust": [str(OUT / "rust" / "answers")],
     "port": [str(HERE / "port")],
+    "native": [str(OUT / "native" / "answers")],
 }
-NEEDS = {"second": COMMANDS["second"][-1], "rust": COMMANDS["rust"][0], "port": HERE.parent / "target/bin/answers"}
+NEEDS = {"second": COMMANDS["second"][-1], "rust": COMMANDS["rust"][0], "port": HERE.parent / "target/bin/answers",
+         "native": COMMANDS["native"][0]}
 MAKES = {"second": "it belongs here", "rust": "oracle/build makes it",
-         "port": "rt check answers makes it (or --without-port)"}
+         "port": "rt check answers makes it (or --without-port)", "native": "oracle/native makes it"}
 ENDED = "no answer"
 
 

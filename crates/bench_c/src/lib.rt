@@ -1,5 +1,5 @@
 // Updates for bench/run, made one after the other on this side of the border, where the state stays.
-mod metrics;
+mod metric_updates;
 mod mot;
 
 use frame::Totals;

@@ -1,7 +1,7 @@
--- `bench_c::metrics::bench_metrics_update` is safe and ends. Assumes nothing.
+-- `bench_c::metric_updates::bench_metrics_update` is safe and ends. Assumes nothing.
 use borrow.Author.Needs.{needs}
-use Rattle.bench_c.proofs.metrics.bench_metrics_update.Statement.{statement}
-use Rattle.bench_c.proofs.metrics.bench_metrics_update.Tie as tie
+use Rattle.bench_c.proofs.metric_updates.bench_metrics_update.Statement.{statement}
+use Rattle.bench_c.proofs.metric_updates.bench_metrics_update.Tie as tie
 
 abbrev Inv-loop : tie.InvT-loop
 Inv-loop gt-ids hyp-ids gt-boxes hyp-boxes iou-threshold times s₀ left₀ s left = Unit {0}
