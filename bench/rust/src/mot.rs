@@ -23,8 +23,12 @@ fn case(kind: &str, ids: &[i32], distances: &[f64]) {
         state.get_events().len()
     };
     let size = format!("{side} a side, {kind}, {times} frames");
-    for (name, sound) in [("motmetrics_update::update_sound", true), ("motmetrics_update::update", false)] {
-        let port = || port::mot_updates(ids, black_box(distances), times, sound);
+    for (name, update) in [
+        ("motmetrics_in_place::update_in_place", port::Update::InPlace),
+        ("motmetrics_update::update_sound", port::Update::Sound),
+        ("motmetrics_update::update", port::Update::Public),
+    ] {
+        let port = || port::mot_updates(ids, black_box(distances), times, update);
         assert_eq!(rust(), port());
         row(name, &size, &mut || { black_box(rust()); }, &mut || { black_box(port()); });
     }

@@ -28,6 +28,10 @@ extern "C" {
         ids: *const i32, ids_len: usize, hyp_ids: *const i32, hyp_ids_len: usize, distances: *const f64,
         distances_len: usize, times: u64,
     ) -> usize;
+    fn bench_mot_update_in_place(
+        ids: *const i32, ids_len: usize, hyp_ids: *const i32, hyp_ids_len: usize, distances: *const f64,
+        distances_len: usize, times: u64,
+    ) -> usize;
     fn bench_metrics_update(
         ids: *const i32, ids_len: usize, hyp_ids: *const i32, hyp_ids_len: usize, truth: *const f64, truth_len: usize,
         predicted: *const f64, predicted_len: usize, threshold: f64, times: u64,
@@ -92,8 +96,12 @@ pub fn updates(ids: &[i32], truth: &[f64], predicted: &[f64], threshold: f64, ti
 }
 
 /// How many events module 3's accumulator has logged after so many updates by one frame.
-pub fn mot_updates(ids: &[i32], distances: &[f64], times: u64, sound: bool) -> usize {
-    let call = if sound { bench_mot_update_sound } else { bench_mot_update };
+pub fn mot_updates(ids: &[i32], distances: &[f64], times: u64, update: Update) -> usize {
+    let call = match update {
+        Update::Public => bench_mot_update,
+        Update::Sound => bench_mot_update_sound,
+        Update::InPlace => bench_mot_update_in_place,
+    };
     // SAFETY: as above
     unsafe { call(ids.as_ptr(), ids.len(), ids.as_ptr(), ids.len(), distances.as_ptr(), distances.len(), times) }
 }

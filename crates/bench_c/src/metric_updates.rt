@@ -80,15 +80,6 @@ pub extern "C" fn bench_metrics_update_in_place(
     };
     let mut left = times;
     while left > 0 {
-        if used.events > 1024 {
-            return 0;
-        }
-        if used.truths > 256 {
-            return 0;
-        }
-        if used.hypotheses > 1024 {
-            return 0;
-        }
         let c = metrics_in_place::update_in_place(
             &mut numbers,
             &mut log_distances,

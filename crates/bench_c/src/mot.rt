@@ -1,5 +1,6 @@
 // Updates of module 3's MOTAccumulator by one frame so many times, from a new state; how many events are logged then.
 use motmetrics::MOTAccumulator;
+use motmetrics_in_place::Used;
 
 // The public update.
 #[no_mangle]
@@ -41,6 +42,39 @@ pub extern "C" fn bench_mot_update_sound(
         left = left - 1;
     }
     s.log.used
+}
+
+// The inner update on lent columns.
+#[no_mangle]
+pub extern "C" fn bench_mot_update_in_place(
+    object_ids: &[i32],
+    hypothesis_ids: &[i32],
+    distances: &[f64],
+    times: u64,
+) -> usize {
+    let mut numbers = [0i32; 4096];
+    let mut log_distances = [0.0f64; 1024];
+    let mut table = [0i32; 768];
+    let mut used = Used {
+        events: 0,
+        truths: 0,
+    };
+    let mut left = times;
+    while left > 0 {
+        let c = motmetrics_in_place::update_in_place(
+            &mut numbers,
+            &mut log_distances,
+            &mut table,
+            used,
+            1,
+            object_ids,
+            hypothesis_ids,
+            distances,
+        );
+        used = c.used;
+        left = left - 1;
+    }
+    used.events
 }
 
 // The pairing of such a frame alone, which is nearly all sort; how many pairs it has.
