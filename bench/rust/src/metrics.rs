@@ -19,7 +19,7 @@ fn case(kind: &str, frame: &Frame, threshold: f64) {
     };
     let size = format!("{side} a side, {kind}, threshold {threshold:.1}, {times} frames");
     for (name, sound) in [("metrics_update::update_sound", true), ("metrics_update::update", false)] {
-        let port = || port::metrics_updates(frame, black_box(threshold), times, sound);
+        let port = || port::metrics_updates(&frame.ids, &frame.truth, &frame.predicted, black_box(threshold), times, sound);
         assert_eq!(rust(), port());
         row(name, &size, &mut || { black_box(rust()); }, &mut || { black_box(port()); });
     }

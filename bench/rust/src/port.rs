@@ -1,7 +1,5 @@
 //! What crates/mot_c and crates/bench_c export. A slice goes over as a pointer and a length.
 
-use crate::extended::Frame;
-
 extern "C" {
     fn mot_compute_iou_distance_matrix(
         gt: *const f64, gt_len: usize, pred: *const f64, pred_len: usize, out: *mut f64, out_len: usize,
@@ -107,9 +105,8 @@ pub fn mot_updates(ids: &[i32], distances: &[f64], times: u64, update: Update) -
 }
 
 /// How many events module 4's accumulator has logged after so many updates by one frame.
-pub fn metrics_updates(frame: &Frame, threshold: f64, times: u64, sound: bool) -> usize {
+pub fn metrics_updates(ids: &[i32], truth: &[f64], predicted: &[f64], threshold: f64, times: u64, sound: bool) -> usize {
     let call = if sound { bench_metrics_update_sound } else { bench_metrics_update };
-    let Frame { ids, truth, predicted } = frame;
     // SAFETY: as above
     unsafe {
         call(

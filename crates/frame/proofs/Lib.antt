@@ -6,4 +6,3 @@ pub mod Everywhere
 pub mod Soundness
 pub mod Kept
 pub mod Machine
-pub mod Examples

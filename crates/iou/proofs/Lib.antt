@@ -2,4 +2,3 @@ pub mod Nan
 pub mod Integers
 pub mod Exact
 pub mod Apart
-pub mod Examples

@@ -2,4 +2,3 @@ pub mod Rooms
 pub mod Zeros
 pub mod Final
 pub mod Kept
-pub mod Examples

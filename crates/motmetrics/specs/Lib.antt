@@ -1,2 +1,3 @@
 pub mod State
 pub mod Metrics
+pub mod Sound

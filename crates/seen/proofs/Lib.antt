@@ -1,2 +1,3 @@
 pub mod Growth
 pub mod Distinct
+pub mod Faults

@@ -1,2 +1,3 @@
 pub mod Seen
 pub mod Holds
+pub mod Sound

@@ -1,0 +1,47 @@
+//! The port beside the Rust in one process, call after call, until the minutes are over or an answer differs.
+//! Usage: soak MINUTES SEED | soak exhaustive
+
+mod boxes;
+mod numbers;
+#[allow(dead_code)]
+#[path = "../port.rs"]
+mod port;
+mod search;
+
+use numbers::Numbers;
+use std::time::{Duration, Instant};
+
+/// Calls between two looks at the clock.
+const ROUND: u64 = 2000;
+
+fn soak(minutes: f64, seed: u64) -> Result<(), String> {
+    let (began, whole) = (Instant::now(), Duration::from_secs_f64(minutes * 60.0));
+    let mut numbers = Numbers::new(seed);
+    let (mut boxes, mut searches) = (0u64, 0u64);
+    while began.elapsed() < whole {
+        for _ in 0..ROUND {
+            boxes::call(&mut numbers).map_or(Ok(()), Err)?;
+            search::call(&mut numbers).map_or(Ok(()), Err)?;
+        }
+        boxes += 2 * ROUND;
+        searches += ROUND;
+    }
+    println!("seed {seed}: no difference in {boxes} matrices of boxes and {searches} searches ({} s)", began.elapsed().as_secs());
+    Ok(())
+}
+
+fn main() {
+    let words: Vec<String> = std::env::args().skip(1).collect();
+    let outcome = match words.iter().map(String::as_str).collect::<Vec<_>>()[..] {
+        ["exhaustive"] => search::exhaustive().map(|done| println!("exhaustive: no difference in {done} searches")),
+        [minutes, seed] => match (minutes.parse(), seed.parse()) {
+            (Ok(minutes), Ok(seed)) => soak(minutes, seed),
+            _ => Err("soak: minutes and a seed are numbers".into()),
+        },
+        _ => Err("Usage: soak MINUTES SEED | soak exhaustive".into()),
+    };
+    if let Err(what) = outcome {
+        eprintln!("{what}");
+        std::process::exit(1);
+    }
+}

@@ -1,5 +1,0 @@
-pub mod Steps
-pub mod Example5
-pub mod Example6
-pub mod Example8
-pub mod Sizes

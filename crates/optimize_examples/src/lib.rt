@@ -1,1 +1,0 @@
-// No code: the marked examples of document 01 that the solver answers, proved of its definitions by computing.
