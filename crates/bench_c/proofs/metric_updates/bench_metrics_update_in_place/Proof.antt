@@ -1,70 +1,67 @@
-use Rattle.bench_c.proofs.metric_updates.bench_metrics_update_in_place.Statement.{
-  statement,
-}
+-- `bench_c::metric_updates::bench_metrics_update_in_place` is safe and ends. Assumes nothing.
+use mathlib.Core.Path.{refl, sym, _∙_}
+use native.Mathlib.Omega.{arith}
+use Rattle.metrics_in_place.specs.InPlace.{runsOf, Within}
+use Rattle.metrics_in_place.proofs.Kept.{used-kept}
+use borrow.Author.Needs.{needs}
+use Rattle.bench_c.proofs.metric_updates.bench_metrics_update_in_place.Statement.{statement}
 use Rattle.bench_c.proofs.metric_updates.bench_metrics_update_in_place.Tie as tie
-use Rattle.bench_c.proofs.metric_updates.bench_metrics_update_in_place.Reads as reads
-use Rattle.bench_c.proofs.metric_updates.bench_metrics_update_in_place.Lts as lts
-use Rattle.metrics_in_place.proofs.update_in_place.Reads as update-in-place-reads
 
 abbrev Inv-loop : tie.InvT-loop
 Inv-loop gt-ids hyp-ids gt-boxes hyp-boxes iou-threshold times numbers₀ log-distances₀ table₀ hypotheses₀ used₀ left₀ numbers log-distances table hypotheses used left =
-    ?
+    Within (runsOf numbers log-distances table hypotheses) used
 
 abbrev μ-loop : tie.MeasureT-loop
 μ-loop gt-ids hyp-ids gt-boxes hyp-boxes iou-threshold times numbers₀ log-distances₀ table₀ hypotheses₀ used₀ left₀ numbers log-distances table hypotheses used left =
-    ?
+    left
 
--- src/metric_updates.rt:82:5
 loop-holds : tie.Need-loop-holds Inv-loop μ-loop
-loop-holds c = ?
+loop-holds c =
+    record { numbers = refl; distances = refl; table = refl; hypotheses = refl; few-events = omega arith; few-truths = omega arith; few-hypotheses = omega arith }
 
--- src/metric_updates.rt:84:13
-returns : tie.Need-returns Inv-loop μ-loop
-returns c = ?
-
--- src/metric_updates.rt:87:13
-returns-2 : tie.Need-returns-2 Inv-loop μ-loop
-returns-2 c = ?
-
--- src/metric_updates.rt:90:13
-returns-3 : tie.Need-returns-3 Inv-loop μ-loop
-returns-3 c = ?
-
--- src/metric_updates.rt:93:13
 slice-aggregate-update-in-place : tie.Need-slice-aggregate-update-in-place Inv-loop μ-loop
-slice-aggregate-update-in-place c = ?
+slice-aggregate-update-in-place c = sym (c .before .before .loop .inv .numbers)
 
--- src/metric_updates.rt:94:13
 slice-aggregate-update-in-place-2 : tie.Need-slice-aggregate-update-in-place-2 Inv-loop μ-loop
-slice-aggregate-update-in-place-2 c = ?
+slice-aggregate-update-in-place-2 c = sym (c .before .before .before .loop .inv .distances)
 
--- src/metric_updates.rt:95:13
 slice-aggregate-update-in-place-3 : tie.Need-slice-aggregate-update-in-place-3 Inv-loop μ-loop
-slice-aggregate-update-in-place-3 c = ?
+slice-aggregate-update-in-place-3 c = sym (c .before .before .before .before .loop .inv .table)
 
--- src/metric_updates.rt:96:13
 slice-aggregate-update-in-place-4 : tie.Need-slice-aggregate-update-in-place-4 Inv-loop μ-loop
-slice-aggregate-update-in-place-4 c = ?
+slice-aggregate-update-in-place-4 c = sym (c .before .before .before .before .before .loop .inv .hypotheses)
 
--- src/metric_updates.rt:92:13
 update-in-place-requires : tie.Need-update-in-place-requires Inv-loop μ-loop
-update-in-place-requires c κs = ?
+update-in-place-requires c κs = c .before .before .before .before .before .loop .inv
 
--- src/metric_updates.rt:106:16
 sub-left : tie.Need-sub-left Inv-loop μ-loop
-sub-left c = ?
+sub-left c = search needs
 
--- src/metric_updates.rt:82:5
 loop-less : tie.Need-loop-less Inv-loop μ-loop
-loop-less c = ?
+loop-less c = search needs
 
--- src/metric_updates.rt:82:5
 loop-again : tie.Need-loop-again Inv-loop μ-loop
-loop-again c = ?
+loop-again c =
+    let u = c .before .before .before .before .before in
+    let b = u .before .before .before .before .before .before in
+    let l = b .loop in
+    let a = b .before .before .before .before .args in
+    let w = l .inv in
+    let k = used-kept (runsOf (l .numbers) (l .log-distances) (l .table) (l .hypotheses)) (l .used) _ (a .gt-ids .now) (a .hyp-ids .now) (a .gt-boxes .now) (a .hyp-boxes .now) (a .iou-threshold)
+    (w .few-events, w .few-truths, w .few-hypotheses) _ (u .update-in-place .result) (u .update-in-place .ensures) in
+    let n = u .update-in-place .kept in
+    record {
+      numbers = n .0 ∙ w .numbers;
+      distances = n .1 .0 ∙ w .distances;
+      table = n .1 .1 .0 ∙ w .table;
+      hypotheses = n .1 .1 .1 .0 ∙ w .hypotheses;
+      few-events = k .0;
+      few-truths = k .1;
+      few-hypotheses = k .2;
+    }
 
--- src/metric_updates.rt:63:1
-returns-4 : tie.Need-returns-4 Inv-loop μ-loop
-returns-4 c = ?
+returns : tie.Need-returns Inv-loop μ-loop
+returns c = search needs
 
 pub bench-metrics-update-in-place-spec : {M : Type 1} → statement M
 bench-metrics-update-in-place-spec =
@@ -73,9 +70,6 @@ bench-metrics-update-in-place-spec =
     Inv-loop
     μ-loop
     loop-holds
-    returns
-    returns-2
-    returns-3
     slice-aggregate-update-in-place
     slice-aggregate-update-in-place-2
     slice-aggregate-update-in-place-3
@@ -84,4 +78,4 @@ bench-metrics-update-in-place-spec =
     sub-left
     loop-less
     loop-again
-    returns-4)
+    returns)
