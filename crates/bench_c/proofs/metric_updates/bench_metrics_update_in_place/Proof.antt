@@ -45,7 +45,7 @@ loop-again c =
     let u = c .before .before .before .before .before in
     let b = u .before .before .before .before .before .before in
     let l = b .loop in
-    let a = b .before .before .before .before .args in
+    let a = b .before .before .before .args in
     let w = l .inv in
     let k = used-kept (runsOf (l .numbers) (l .log-distances) (l .table) (l .hypotheses)) (l .used) _ (a .gt-ids .now) (a .hyp-ids .now) (a .gt-boxes .now) (a .hyp-boxes .now) (a .iou-threshold)
     (w .few-events, w .few-truths, w .few-hypotheses) _ (u .update-in-place .result) (u .update-in-place .ensures) in
