@@ -39,6 +39,10 @@ extern "C" {
         ids: *const i32, ids_len: usize, hyp_ids: *const i32, hyp_ids_len: usize, truth: *const f64, truth_len: usize,
         predicted: *const f64, predicted_len: usize, threshold: f64, times: u64,
     ) -> usize;
+    fn bench_metrics_update_in_place(
+        ids: *const i32, ids_len: usize, hyp_ids: *const i32, hyp_ids_len: usize, truth: *const f64, truth_len: usize,
+        predicted: *const f64, predicted_len: usize, threshold: f64, times: u64,
+    ) -> usize;
     fn bench_pair_by_distance(distances: *const f64, distances_len: usize, rows: usize, columns: usize) -> usize;
     fn bench_update_in_place(
         gt_ids: *const i32, gt_ids_len: usize, gt: *const f64, gt_len: usize, pred_ids: *const i32, pred_ids_len: usize,
@@ -118,8 +122,14 @@ fn mot_updates_in_place(ids: &[i32], distances: &[f64], times: u64) -> usize {
 }
 
 /// How many events module 4's accumulator has logged after so many updates by one frame.
-pub fn metrics_updates(ids: &[i32], truth: &[f64], predicted: &[f64], threshold: f64, times: u64, sound: bool) -> usize {
-    let call = if sound { bench_metrics_update_sound } else { bench_metrics_update };
+pub fn metrics_updates(
+    ids: &[i32], truth: &[f64], predicted: &[f64], threshold: f64, times: u64, update: Update,
+) -> usize {
+    let call = match update {
+        Update::Public => bench_metrics_update,
+        Update::Sound => bench_metrics_update_sound,
+        Update::InPlace => bench_metrics_update_in_place,
+    };
     // SAFETY: as above
     unsafe {
         call(

@@ -181,5 +181,6 @@ module _ (table : List ℤ) (long : length table ≡ 768) (used : ℕ) (h : used
               (λ j. truthsIn (n j) (counted j))
               ∙ (seen-is table long used seen grown few
               ∙ (ap (λ (l : List ℤ). withTable t (seenTable (tableOf t) l)) (sym seen-as) ∙ sym (rw w refl)));
+          count = counted;
           numbers = n;
         }
