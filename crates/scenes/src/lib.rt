@@ -155,7 +155,7 @@ fn frame_of(
 
 // How many frames a scene has.
 pub fn frames(scene: Scene) -> usize
-    ensures { λ r. ⌜ r ≡ framesOf scene ⌝ }
+    ensures { λ r. ⌜ (r ≡ framesOf scene) × (r < 10000) ⌝ }
 {
     match scene {
         Scene::Match => MATCH_FRAMES.len(),
