@@ -9,11 +9,24 @@ use Rattle.scenes.specs.declared.Scene.{Scene}
 use Rattle.scenes.specs.declared.Scene.the-variants.{Match, Incident, Flat}
 use Rattle.scenes.specs.declared.Sizes.{Sizes}
 use Rattle.scenes.specs.Digits.{sizeOf, idsOf, boxesOf}
+use Rattle.scenes.specs.Tables.{matchFrames, matchTruths, matchPredictions, incidentFrames, incidentTruths, incidentPredictions}
+use Rattle.scenes.specs.Tables.{flatFrames, flatTruths, flatPredictions}
 
-abbrev pub framesOf : Scene → ℕ
-framesOf Match = 36
-framesOf Incident = 36
-framesOf Flat = 4
+-- a scene's tables: its frames, its truth boxes and its predictions
+abbrev pub framesIn : Scene → List ℕ
+framesIn Match = matchFrames
+framesIn Incident = incidentFrames
+framesIn Flat = flatFrames
+
+abbrev pub truthsIn : Scene → List ℕ
+truthsIn Match = matchTruths
+truthsIn Incident = incidentTruths
+truthsIn Flat = flatTruths
+
+abbrev pub predictionsIn : Scene → List ℕ
+predictionsIn Match = matchPredictions
+predictionsIn Incident = incidentPredictions
+predictionsIn Flat = flatPredictions
 
 -- a frame's digits: where its truth boxes begin and how many there are, then the same of its predictions
 abbrev pub truthsFrom : ℕ → ℕ
@@ -56,3 +69,9 @@ pub record Lent (n floats : ℕ) (ids : List ℤ) (boxes : List Float) : Type 0 
   pub four : floats ≡ n * 4
   pub ids-there : (n ≤ length ids) × (n ≡ length (take n ids))
   pub boxes-there : (floats ≤ length boxes) × (floats ≡ length (take floats boxes))
+
+-- a frame of three tables, in memory that was lent
+pub record Shown (frames truths predictions : List ℕ) (number : ℕ) (r : Sizes) (truth-ids : List ℤ) (truth-boxes : List Float) (ids : List ℤ) (boxes : List Float) : Type 0 where
+  pub sizes : r ≡ sizesOf frames (length truths) (length predictions) number
+  pub truth-side : Laid truths (truthsFrom (getD frames number 0)) (r .truths) truth-ids truth-boxes
+  pub predicted-side : Laid predictions (predictionsFrom (getD frames number 0)) (r .predictions) ids boxes

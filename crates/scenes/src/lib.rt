@@ -5,7 +5,7 @@ ghost use Prim.Native.Nat.{_+_, _*_, _≤_, _<_};
 ghost use lib.IntN.{pos};
 ghost use lib.ListN.{length, take, getD};
 ghost use Rattle.scenes.specs.Digits.{idOf, partOf, float64, boxOf, sizeOf};
-ghost use Rattle.scenes.specs.Frames.{framesOf, truthsFrom, predictionsFrom, sizesOf, Few, Laid, Lent};
+ghost use Rattle.scenes.specs.Frames.{framesIn, truthsIn, predictionsIn, Few, Laid, Lent, Shown};
 use crate::tables::FLAT_FRAMES;
 use crate::tables::FLAT_PREDICTIONS;
 use crate::tables::FLAT_TRUTHS;
@@ -123,9 +123,7 @@ fn frame_of(
     boxes: &mut [f64],
 ) -> Sizes
     requires { ⌜ (64 ≤ length (now «truth_ids»)) × (256 ≤ length (now «truth_boxes»)) × (64 ≤ length (now ids)) × (256 ≤ length (now boxes)) ⌝ }
-    ensures { λ r. ⌜ r ≡ sizesOf (now (frames .entry)) (length (now (truths .entry))) (length (now (predictions .entry))) number ⌝ }
-    ensures { λ r. ⌜ Laid (now (truths .entry)) (truthsFrom (getD (now (frames .entry)) number 0)) (r .truths) (now («truth_ids» .exit)) (now («truth_boxes» .exit)) ⌝ }
-    ensures { λ r. ⌜ Laid (now (predictions .entry)) (predictionsFrom (getD (now (frames .entry)) number 0)) (r .predictions) (now (ids .exit)) (now (boxes .exit)) ⌝ }
+    ensures { λ r. ⌜ Shown (now (frames .entry)) (now (truths .entry)) (now (predictions .entry)) number r (now («truth_ids» .exit)) (now («truth_boxes» .exit)) (now (ids .exit)) (now (boxes .exit)) ⌝ }
     ensures { λ r. ⌜ Few r ⌝ }
     ensures { λ r. ⌜ (length (now («truth_ids» .exit)) ≡ length (now («truth_ids» .entry))) × (length (now («truth_boxes» .exit)) ≡ length (now («truth_boxes» .entry))) ⌝ }
     ensures { λ r. ⌜ (length (now (ids .exit)) ≡ length (now (ids .entry))) × (length (now (boxes .exit)) ≡ length (now (boxes .entry))) ⌝ }
@@ -155,7 +153,7 @@ fn frame_of(
 
 // How many frames a scene has.
 pub fn frames(scene: Scene) -> usize
-    ensures { λ r. ⌜ (r ≡ framesOf scene) × (r < 10000) ⌝ }
+    ensures { λ r. ⌜ (r ≡ length (framesIn scene)) × (r < 10000) ⌝ }
 {
     match scene {
         Scene::Match => MATCH_FRAMES.len(),
@@ -173,6 +171,7 @@ pub fn frame_at(
     ids: &mut [i32; 64],
     boxes: &mut [f64; 256],
 ) -> Sizes
+    ensures { λ r. ⌜ Shown (framesIn scene) (truthsIn scene) (predictionsIn scene) number r (now («truth_ids» .exit)) (now («truth_boxes» .exit)) (now (ids .exit)) (now (boxes .exit)) ⌝ }
     ensures { λ r. ⌜ Lent (r .truths) (r .«truth_floats») (now («truth_ids» .exit)) (now («truth_boxes» .exit)) ⌝ }
     ensures { λ r. ⌜ Lent (r .predictions) (r .«predicted_floats») (now (ids .exit)) (now (boxes .exit)) ⌝ }
 {

@@ -1,5 +1,6 @@
 -- `scenes::frame_at` meets its contract. Assumes nothing.
-use mathlib.Core.Path.{sym}
+use Rattle.scenes.specs.Tables.{matchFrames, matchTruths, matchPredictions, incidentFrames, incidentTruths, incidentPredictions}
+use Rattle.scenes.specs.Tables.{flatFrames, flatTruths, flatPredictions}
 use Rattle.scenes.proofs.Rows.{lent}
 use borrow.Author.Needs.{needs}
 use Rattle.scenes.proofs.frame_at.Statement.{statement}
@@ -51,19 +52,22 @@ frame-of-requires-3 : tie.Need-frame-of-requires-3
 frame-of-requires-3 c κs = search needs
 
 returns : tie.Need-returns
+unfolding matchFrames matchTruths matchPredictions
 returns c =
-    let few = c .frame-of .ensures .1 .1 .1 .0 in
-    (lent (few .truths) (few .truth-floats) (search needs) (search needs), lent (few .predictions) (few .predicted-floats) (search needs) (search needs))
+    let few = c .frame-of .ensures .1 .0 in
+    (rw (c .before .before .before .before .before .before .before .before .enum-told .given .1) (c .frame-of .ensures .0), (lent (few .truths) (few .truth-floats) (search needs) (search needs), lent (few .predictions) (few .predicted-floats) (search needs) (search needs)))
 
 returns-2 : tie.Need-returns-2
+unfolding incidentFrames incidentTruths incidentPredictions
 returns-2 c =
-    let few = c .frame-of2 .ensures .1 .1 .1 .0 in
-    (lent (few .truths) (few .truth-floats) (search needs) (search needs), lent (few .predictions) (few .predicted-floats) (search needs) (search needs))
+    let few = c .frame-of2 .ensures .1 .0 in
+    (rw (c .before .before .before .before .before .before .before .before .enum-told2 .given .1) (c .frame-of2 .ensures .0), (lent (few .truths) (few .truth-floats) (search needs) (search needs), lent (few .predictions) (few .predicted-floats) (search needs) (search needs)))
 
 returns-3 : tie.Need-returns-3
+unfolding flatFrames flatTruths flatPredictions
 returns-3 c =
-    let few = c .frame-of3 .ensures .1 .1 .1 .0 in
-    (lent (few .truths) (few .truth-floats) (search needs) (search needs), lent (few .predictions) (few .predicted-floats) (search needs) (search needs))
+    let few = c .frame-of3 .ensures .1 .0 in
+    (rw (c .before .before .before .before .before .before .before .before .enum-told3 .given .1) (c .frame-of3 .ensures .0), (lent (few .truths) (few .truth-floats) (search needs) (search needs), lent (few .predictions) (few .predicted-floats) (search needs) (search needs)))
 
 pub frame-at-spec : {M : Type 1} → statement M
 frame-at-spec =

@@ -38,8 +38,8 @@ returns c =
     let n = c .before .before .before .before .before .before .before .before .before .side in
     let m = c .before .before .before .side2 in
     let d = c .before .before .before .before .before .before .before .before .before .before .before .before .digits-at .ensures in (
-      simp (n .ensures .0 .0, m .ensures .0 .0, d),
-      (rw d at (n .ensures .0 .1), (rw d at (m .ensures .0 .1), (record { truths = n .ensures .1 .0; predictions = m .ensures .1 .0; truth-floats = refl; predicted-floats = refl }, (search needs, search needs)))),
+      record { sizes = simp (n .ensures .0 .0, m .ensures .0 .0, d); truth-side = rw d at (n .ensures .0 .1); predicted-side = rw d at (m .ensures .0 .1) },
+      (record { truths = n .ensures .1 .0; predictions = m .ensures .1 .0; truth-floats = refl; predicted-floats = refl }, (search needs, search needs)),
     )
 
 pub frame-of-spec : {M : Type 1} → statement M
