@@ -111,14 +111,27 @@ pub fn mot_updates(ids: &[i32], distances: &[f64], times: u64, update: Update) -
 
 /// The same on lent columns, new ones each time.
 fn mot_updates_in_place(ids: &[i32], distances: &[f64], times: u64) -> usize {
-    let (mut numbers, mut log_distances, mut table) = ([0i32; 4096], [0f64; 1024], [0i32; 768]);
+    mot_log_in_place(ids, distances, times).used
+}
+
+/// A log as columns: frames, kinds, truths and hypotheses, 1,024 of each, and distances.
+pub struct Columns {
+    pub numbers: [i32; 4096],
+    pub distances: [f64; 1024],
+    pub used: usize,
+}
+
+pub fn mot_log_in_place(ids: &[i32], distances: &[f64], times: u64) -> Columns {
+    let mut log = Columns { numbers: [0; 4096], distances: [0.0; 1024], used: 0 };
+    let mut table = [0i32; 768];
     // SAFETY: as above
-    unsafe {
+    log.used = unsafe {
         bench_mot_update_in_place(
-            numbers.as_mut_ptr(), numbers.len(), log_distances.as_mut_ptr(), log_distances.len(), table.as_mut_ptr(), table.len(),
+            log.numbers.as_mut_ptr(), log.numbers.len(), log.distances.as_mut_ptr(), log.distances.len(), table.as_mut_ptr(), table.len(),
             ids.as_ptr(), ids.len(), ids.as_ptr(), ids.len(), distances.as_ptr(), distances.len(), times,
         )
-    }
+    };
+    log
 }
 
 /// How many events module 4's accumulator has logged after so many updates by one frame.
