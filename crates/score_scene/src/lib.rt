@@ -1,5 +1,6 @@
 // A scene played frame by frame through both accumulators, and what is said of it.
 ghost use Prim.Native.Nat.{_<_};
+ghost use Rattle.score_scene.specs.Playing.{sceneStep, runAfter, playedOf, Stands};
 use lines::output;
 use lines::output::Writer;
 use replay::Both;
@@ -20,7 +21,9 @@ struct Played {
 }
 
 // A refusal ends a run: the rows before it stand, and the states are those after the last row.
-fn say_step(to: &mut [u8; 65536], w: Writer, frame: u64, step: Step) -> Played {
+fn say_step(to: &mut [u8; 65536], w: Writer, frame: u64, step: Step) -> Played
+    ensures { λ r. ⌜ Stands (r .both) (r .over) (runAfter step) ⌝ }
+{
     let both = step.both;
     if step.extended_number != 0 {
         return Played {
@@ -53,6 +56,7 @@ fn say_step(to: &mut [u8; 65536], w: Writer, frame: u64, step: Step) -> Played {
 // The scene's frame of this number, from 0; the accumulators and the table count from 1.
 fn play_frame(to: &mut [u8; 65536], scene: Scene, number: usize, p: Played) -> Played
     requires { ⌜ number < 10000 ⌝ }
+    ensures { λ r. ⌜ Stands (r .both) (r .over) (runAfter (sceneStep scene number (p .both))) ⌝ }
 {
     let mut truth_ids = [0i32; 64];
     let mut truth_boxes = [0.0; 256];
@@ -82,12 +86,22 @@ fn play_frame(to: &mut [u8; 65536], scene: Scene, number: usize, p: Played) -> P
     say_step(to, p.writer, frame as u64, step)
 }
 
-fn play(to: &mut [u8; 65536], scene: Scene, start: Played, frames: usize) -> Played
+// All frames, up to the first that is refused.
+fn play(to: &mut [u8; 65536], w: Writer, scene: Scene, frames: usize) -> Played
     requires { ⌜ frames < 10000 ⌝ }
+    ensures { λ r. ⌜ Stands (r .both) (r .over) (playedOf scene frames) ⌝ }
 {
-    let mut p = start;
+    let both = replay::start();
+    let mut p = Played {
+        both,
+        writer: w,
+        over: false,
+    };
     let mut number: usize = 0;
-    while number < frames && !p.over {
+    while number < frames {
+        if p.over {
+            return p;
+        }
         p = play_frame(to, scene, number, p);
         number += 1;
     }
@@ -103,17 +117,7 @@ fn say_end(to: &mut [u8; 65536], w: Writer, both: Both) -> Writer {
 
 // The whole of a scene: its frames, its truth ids, its scores.
 pub fn score(to: &mut [u8; 65536], w: Writer, scene: Scene) -> Writer {
-    let both = replay::start();
-    let writer = say_head(to, w);
-    let p = play(
-        to,
-        scene,
-        Played {
-            both,
-            writer,
-            over: false,
-        },
-        scenes::frames(scene),
-    );
+    let q = say_head(to, w);
+    let p = play(to, q, scene, scenes::frames(scene));
     say_end(to, p.writer, p.both)
 }
