@@ -28,16 +28,25 @@ fn say_counts(
     output::byte(to, q, b'\n')
 }
 
+// A score that there may not be.
+fn say_if(to: &mut [u8; 65536], w: Writer, known: bool, x: f64) -> Writer {
+    if known {
+        return six(to, w, 10, x);
+    }
+    right(to, w, 10, b"-")
+}
+
 fn say_scores(
     to: &mut [u8; 65536],
     w: Writer,
     label: &[u8],
+    known: bool,
     extended: f64,
     metrics: f64,
     note: &[u8],
 ) -> Writer {
     let q = left(to, w, 15, label);
-    let q = six(to, q, 10, extended);
+    let q = say_if(to, q, known, extended);
     let q = six(to, q, 11, metrics);
     let q = output::text(to, q, note);
     output::byte(to, q, b'\n')
@@ -80,18 +89,19 @@ fn say_events(
 }
 
 fn say_shares(to: &mut [u8; 65536], w: Writer, e: Scores, m: MOTMetrics) -> Writer {
-    let q = say_scores(to, w, b"MOTA", e.mota, m.mota, b"");
+    let q = say_scores(to, w, b"MOTA", e.known, e.mota, m.mota, b"");
     let q = say_scores(
         to,
         q,
         b"MOTP",
+        e.known,
         e.motp,
         m.motp,
         b"   the mean distance; the mean IoU",
     );
-    let q = say_scores(to, q, b"precision", e.precision, m.precision, b"");
-    let q = say_scores(to, q, b"recall", e.recall, m.recall, b"");
-    say_scores(to, q, b"f1", e.f1, m.idf1, b"")
+    let q = say_scores(to, q, b"precision", e.known, e.precision, m.precision, b"");
+    let q = say_scores(to, q, b"recall", e.known, e.recall, m.recall, b"");
+    say_scores(to, q, b"f1", e.known, e.f1, m.idf1, b"")
 }
 
 fn say_classes(to: &mut [u8; 65536], w: Writer, x: ExtendedMetrics) -> Writer {
