@@ -27,6 +27,7 @@ extern "C" {
         distances_len: usize, times: u64,
     ) -> usize;
     fn bench_mot_update_in_place(
+        numbers: *mut i32, numbers_len: usize, log_distances: *mut f64, log_distances_len: usize, table: *mut i32, table_len: usize,
         ids: *const i32, ids_len: usize, hyp_ids: *const i32, hyp_ids_len: usize, distances: *const f64,
         distances_len: usize, times: u64,
     ) -> usize;
@@ -102,10 +103,35 @@ pub fn mot_updates(ids: &[i32], distances: &[f64], times: u64, update: Update) -
     let call = match update {
         Update::Public => bench_mot_update,
         Update::Sound => bench_mot_update_sound,
-        Update::InPlace => bench_mot_update_in_place,
+        Update::InPlace => return mot_updates_in_place(ids, distances, times),
     };
     // SAFETY: as above
     unsafe { call(ids.as_ptr(), ids.len(), ids.as_ptr(), ids.len(), distances.as_ptr(), distances.len(), times) }
+}
+
+/// The same on lent columns, new ones each time.
+fn mot_updates_in_place(ids: &[i32], distances: &[f64], times: u64) -> usize {
+    mot_log_in_place(ids, distances, times).used
+}
+
+/// A log as columns: frames, kinds, truths and hypotheses, 1,024 of each, and distances.
+pub struct Columns {
+    pub numbers: [i32; 4096],
+    pub distances: [f64; 1024],
+    pub used: usize,
+}
+
+pub fn mot_log_in_place(ids: &[i32], distances: &[f64], times: u64) -> Columns {
+    let mut log = Columns { numbers: [0; 4096], distances: [0.0; 1024], used: 0 };
+    let mut table = [0i32; 768];
+    // SAFETY: as above
+    log.used = unsafe {
+        bench_mot_update_in_place(
+            log.numbers.as_mut_ptr(), log.numbers.len(), log.distances.as_mut_ptr(), log.distances.len(), table.as_mut_ptr(), table.len(),
+            ids.as_ptr(), ids.len(), ids.as_ptr(), ids.len(), distances.as_ptr(), distances.len(), times,
+        )
+    };
+    log
 }
 
 /// How many events module 4's accumulator has logged after so many updates by one frame.

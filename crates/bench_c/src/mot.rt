@@ -44,17 +44,27 @@ pub extern "C" fn bench_mot_update_sound(
     s.log.used
 }
 
-// The inner update on lent columns.
+// The inner update on columns that are lent by the caller: in a local of this function nobody would read the log, and the compiler
+// could leave out its writing.
 #[no_mangle]
 pub extern "C" fn bench_mot_update_in_place(
+    numbers: &mut [i32],
+    log_distances: &mut [f64],
+    table: &mut [i32],
     object_ids: &[i32],
     hypothesis_ids: &[i32],
     distances: &[f64],
     times: u64,
 ) -> usize {
-    let mut numbers = [0i32; 4096];
-    let mut log_distances = [0.0f64; 1024];
-    let mut table = [0i32; 768];
+    if numbers.len() != 4096 {
+        return 0;
+    }
+    if log_distances.len() != 1024 {
+        return 0;
+    }
+    if table.len() != 768 {
+        return 0;
+    }
     let mut used = Used {
         events: 0,
         truths: 0,
@@ -62,9 +72,9 @@ pub extern "C" fn bench_mot_update_in_place(
     let mut left = times;
     while left > 0 {
         let c = motmetrics_in_place::update_in_place(
-            &mut numbers,
-            &mut log_distances,
-            &mut table,
+            numbers,
+            log_distances,
+            table,
             used,
             1,
             object_ids,

@@ -28,7 +28,8 @@ use Rattle.rows.specs.declared.ExtendedMOTAccumulator.{ExtendedMOTAccumulator}
 use Rattle.rows.specs.Rows.{newState, rowAt, spotOf, stepOf, bookRow, trialAfter}
 use Rattle.frame.specs.declared.Booked.{Booked}
 use Rattle.frame.specs.Frame.{nextFrame, roomForAll, raisedBy, closed, frameOf, totalsSound, soundState}
-use Rattle.pairing.specs.Pairing.{sizeNo, fitNo, shapeNo, pairingNo, sumOf, pairsIn, pairedOf, noPairs, framePairs, pairingAt, pairingOf}
+use Rattle.shape.specs.Shape.{sizeNo, fitNo, shapeNo}
+use Rattle.pairing.specs.Pairing.{pairingNo, sumOf, pairsIn, pairedOf, noPairs, framePairs, pairingAt, pairingOf}
 use Rattle.extended.specs.Update.{refusedAt, pairedAfter, frameAfter, updateOf}
 use Rattle.extended.specs.Play.{Frame, updateBy, playedOf}
 use Rattle.examples.specs.Shown.{shown, pair}

@@ -2,3 +2,4 @@ pub mod Nan
 pub mod Integers
 pub mod Exact
 pub mod Apart
+pub mod Answers

@@ -1,6 +1,7 @@
 -- Document 01, "Boxes": a definition for each step of its text, over lib.Ieee's binary64.
 use Prim.Native.Nat.{ℕ}
 use mathlib.Core.Bool.{Bool, cond, _||_}
+use mathlib.Core.Path.{_≡_}
 use lib.Ieee.{Float, binary64, add, sub, mul, div, lt, le, eq, isNan}
 use Rattle.floats.specs.Float.{minOf, maxOf, zero64, one64}
 use Rattle.iou.specs.declared.Box.{Box}
@@ -64,3 +65,16 @@ numberOf (Value d) = 0
 abbrev pub valueOf : Distance → Float
 valueOf Refused = zero64
 valueOf (Value d) = d
+
+-- what document 01 says of two boxes: the number, and the value
+unfoldable pub distanceNo : Box → Box → ℕ
+distanceNo a b = cond (badBox a || badBox b) 4 0
+
+unfoldable pub distanceIn : Box → Box → Float
+distanceIn a b = cond (badBox a || badBox b) zero64 (distanceOf a b)
+
+-- THE ANSWER of `iou_distance`: its case, and the number and the value that stand for it
+pub record Answered (a b : Box) (r : Distance) : Type 0 where
+  pub case : r ≡ iouDistanceOf a b
+  pub number : numberOf r ≡ distanceNo a b
+  pub value : valueOf r ≡ distanceIn a b

@@ -4,7 +4,7 @@ ghost use mathlib.Core.Path.{_≡_};
 ghost use mathlib.Core.Bool.{false, cond};
 ghost use lib.Ieee.{lt};
 ghost use Rattle.floats.specs.Float.{maxOf, zero64};
-ghost use Rattle.iou.specs.Boxes.{badBox, anyNan, areaOf, rectangleOf, intersectionOf, distanceOf, iouDistanceOf, sharedOf, iouShareOf};
+ghost use Rattle.iou.specs.Boxes.{badBox, anyNan, areaOf, rectangleOf, intersectionOf, distanceOf, Answered, sharedOf, iouShareOf};
 
 // A box: its corner with the smaller coordinates, and the opposite one.
 #[repr(C)]
@@ -86,7 +86,7 @@ pub fn box_distance(box1: Box, area1: f64, box2: Box, area2: f64) -> f64
 
 // 1.0 less the intersection's share of the union: 0.0 for equal boxes, 1.0 for boxes that share nothing.
 pub fn iou_distance(box1: Box, box2: Box) -> Distance
-    ensures { λ r. ⌜ r ≡ iouDistanceOf box1 box2 ⌝ }
+    ensures { λ r. ⌜ Answered box1 box2 r ⌝ }
 {
     if is_bad(box1) {
         return Distance::Refused;

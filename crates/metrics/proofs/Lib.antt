@@ -1,2 +1,3 @@
 pub mod Sound
 pub mod Faults
+pub mod Machine

@@ -1,5 +1,5 @@
 -- `bench_c::mot::bench_mot_update_in_place` is safe and ends. Assumes nothing.
-use mathlib.Core.Path.{refl, sym, _∙_}
+use mathlib.Core.Path.{sym, _∙_}
 use native.Mathlib.Omega.{arith}
 use lib.ListN.{length}
 use Rattle.motmetrics_in_place.specs.Updated.{runsOf, Within}
@@ -9,23 +9,30 @@ use Rattle.bench_c.proofs.mot.bench_mot_update_in_place.Statement.{stat
 use Rattle.bench_c.proofs.mot.bench_mot_update_in_place.Tie as tie
 
 abbrev Inv-loop : tie.InvT-loop
-Inv-loop object-ids hypothesis-ids distances times numbers₀ log-distances₀ table₀ used₀ left₀ numbers log-distances table used left =
+Inv-loop numbers₀ log-distances₀ table₀ object-ids hypothesis-ids distances times used₀ left₀ numbers log-distances table used left =
     Within (length numbers) (length log-distances) (length table) used
 
 abbrev μ-loop : tie.MeasureT-loop
-μ-loop object-ids hypothesis-ids distances times numbers₀ log-distances₀ table₀ used₀ left₀ numbers log-distances table used left = left
+μ-loop numbers₀ log-distances₀ table₀ object-ids hypothesis-ids distances times used₀ left₀ numbers log-distances table used left = left
+
+returns : tie.Need-returns Inv-loop μ-loop
+returns c = search needs
+
+returns-2 : tie.Need-returns-2 Inv-loop μ-loop
+returns-2 c = search needs
+
+returns-3 : tie.Need-returns-3 Inv-loop μ-loop
+returns-3 c = search needs
 
 loop-holds : tie.Need-loop-holds Inv-loop μ-loop
-loop-holds c = record { four-columns = refl; one-column = refl; three-columns = refl; few-events = omega arith; few-truths = omega arith }
-
-slice-aggregate-update-in-place : tie.Need-slice-aggregate-update-in-place Inv-loop μ-loop
-slice-aggregate-update-in-place c = sym (c .before .before .loop .inv .four-columns)
-
-slice-aggregate-update-in-place-2 : tie.Need-slice-aggregate-update-in-place-2 Inv-loop μ-loop
-slice-aggregate-update-in-place-2 c = sym (c .before .before .before .loop .inv .one-column)
-
-slice-aggregate-update-in-place-3 : tie.Need-slice-aggregate-update-in-place-3 Inv-loop μ-loop
-slice-aggregate-update-in-place-3 c = sym (c .before .before .before .before .loop .inv .three-columns)
+loop-holds c =
+    record {
+      four-columns = c .before .before .if1 .left;
+      one-column = c .before .if2 .left;
+      three-columns = c .if3 .left;
+      few-events = omega arith;
+      few-truths = omega arith;
+    }
 
 update-in-place-requires : tie.Need-update-in-place-requires Inv-loop μ-loop
 update-in-place-requires c κs = c .before .before .before .before .loop .inv
@@ -38,10 +45,10 @@ loop-less c = search needs
 
 loop-again : tie.Need-loop-again Inv-loop μ-loop
 loop-again c =
-    let u = c .before .before .before .before in
+    let u = c .before .before .before .before .before in
     let b = u .before .before .before .before .before in
     let l = b .loop in
-    let a = b .before .before .args in
+    let a = b .before .before .before .before .before .before .args in
     let k = used-kept (runsOf (l .numbers) (l .log-distances) (l .table)) (l .used) _ (a .object-ids .now) (a .hypothesis-ids .now) (a .distances .now) (l .inv .few-events) (l .inv .few-truths)
     _ (u .update-in-place .result) (u .update-in-place .ensures) in
     let n = u .update-in-place .kept in
@@ -53,8 +60,17 @@ loop-again c =
       few-truths = k .1;
     }
 
-returns : tie.Need-returns Inv-loop μ-loop
-returns c = search needs
+same-length : tie.Need-same-length Inv-loop μ-loop
+same-length c = c .before .loop .inv .four-columns ∙ sym (c .before .before .before .before .if1 .left)
+
+same-length-2 : tie.Need-same-length-2 Inv-loop μ-loop
+same-length-2 c = c .before .loop .inv .one-column ∙ sym (c .before .before .before .if2 .left)
+
+same-length-3 : tie.Need-same-length-3 Inv-loop μ-loop
+same-length-3 c = c .before .loop .inv .three-columns ∙ sym (c .before .before .if3 .left)
+
+returns-4 : tie.Need-returns-4 Inv-loop μ-loop
+returns-4 c = search needs
 
 pub bench-mot-update-in-place-spec : {M : Type 1} → statement M
 bench-mot-update-in-place-spec =
@@ -62,12 +78,15 @@ bench-mot-update-in-place-spec =
     (tie.spec
     Inv-loop
     μ-loop
+    returns
+    returns-2
+    returns-3
     loop-holds
-    slice-aggregate-update-in-place
-    slice-aggregate-update-in-place-2
-    slice-aggregate-update-in-place-3
     update-in-place-requires
     sub-left
     loop-less
     loop-again
-    returns)
+    same-length
+    same-length-2
+    same-length-3
+    returns-4)
