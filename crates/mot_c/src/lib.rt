@@ -1,4 +1,5 @@
 // The port for C and Rust: each slice is a pointer and a length. Every function promises what the call behind it does.
+mod accumulators;
 mod solver;
 
 ghost use mathlib.Core.Path.{_≡_};

@@ -1,0 +1,106 @@
+/* The port for C: what the archive of crates/mot_c exports.
+ *
+ * A slice is a pointer and the number of its elements. A length of 0 goes with any pointer that is not null and is aligned.
+ * Lent memory that is written must not overlap any other argument of the call.
+ *
+ * Every function gives a number back:
+ *   0  done
+ *   1  a state handed in isn't sound: a used count that is negative or over its capacity, an id twice in the used places,
+ *      or a negative counter
+ *   2  more than 64 rows, columns, boxes or ids on one side
+ *   3  ids and boxes differ in number; a run of box floats isn't a multiple of four long; a matrix isn't rows times columns
+ *      long; the solver is given 0 rows with columns; the runs of a state are of another length than the state's
+ *   4  a box that is read has x_max <= x_min or y_max <= y_min
+ *   5  after the frame a table would hold more distinct ids than it can
+ *   6  an output is shorter than what the call would write
+ *   7  a counter would pass 2,147,483,647
+ * The lowest number that applies is given. Beside a refusal all lent memory keeps its contents.
+ *
+ * A box is four doubles: x_min, y_min, x_max, y_max. */
+#ifndef MOT_H
+#define MOT_H
+
+#include <stddef.h>
+#include <stdint.h>
+
+#ifdef __cplusplus
+extern "C" {
+#endif
+
+/* ---- boxes: matrices of truth boxes by predicted boxes, row by row over the first rows times columns places of out */
+
+/* 1.0 - intersection / union of each two boxes. Numbers 0, 2, 3, 4, 6. */
+uint32_t mot_compute_iou_distance_matrix(const double *gt_bboxes, size_t gt_bboxes_len,
+                                         const double *pred_bboxes, size_t pred_bboxes_len,
+                                         double *out, size_t out_len);
+
+/* intersection / union of each two boxes; no box is refused. Numbers 0, 2, 3, 6. */
+uint32_t mot_iou_matrix(const double *boxes_a, size_t boxes_a_len,
+                        const double *boxes_b, size_t boxes_b_len,
+                        double *out, size_t out_len);
+
+/* ---- the solver */
+
+/* The places of its answer. */
+enum {
+    MOT_PAIRS = 0,            /* how many pairs */
+    MOT_ROWS_LEFT = 1,        /* how many unmatched rows */
+    MOT_COLS_LEFT = 2,        /* how many unmatched columns */
+    MOT_CORRECTIONS = 3,      /* how many cost corrections the search made */
+    MOT_PATHS = 4,            /* how many path changes */
+    MOT_PAIR_ROWS = 5,        /* 64 places: the pairs' rows, rising */
+    MOT_PAIR_COLS = 69,       /* 64 places: their columns */
+    MOT_UNMATCHED_ROWS = 133, /* 64 places, rising */
+    MOT_UNMATCHED_COLS = 197, /* 64 places, rising */
+    MOT_ANSWER_LEN = 261      /* places of a list after its count are 0 */
+};
+
+/* Pairs of least cost; of these the ones with cost <= max_cost are listed. The cost is row by row. Numbers 0, 2, 3, 6. */
+uint32_t mot_linear_sum_assignment(const double *cost, size_t cost_len,
+                                   size_t rows, size_t cols, double max_cost,
+                                   size_t *out, size_t out_len);
+
+/* ---- the extended accumulator
+ * Its state is three runs that the caller keeps. All zeros are a new state. */
+
+enum {
+    /* run: nine columns of 256 numbers, a slot for each truth id in the order of first booking */
+    MOT_EXTENDED_ID = 0,
+    MOT_EXTENDED_FIRST_FRAME = 256,
+    MOT_EXTENDED_LAST_FRAME = 512,
+    MOT_EXTENDED_TRACKED = 768,
+    MOT_EXTENDED_DETECTED = 1024,
+    MOT_EXTENDED_FRAGMENTATIONS = 1280,
+    MOT_EXTENDED_WAS_MATCHED = 1536,  /* 0, or matched in its last frame */
+    MOT_EXTENDED_HAS_PARTNER = 1792,  /* 0, or the next column holds the last partner */
+    MOT_EXTENDED_PARTNER = 2048,
+    MOT_EXTENDED_RUN_LEN = 2304,
+    /* counters */
+    MOT_EXTENDED_USED = 0,            /* slots in use */
+    MOT_EXTENDED_FRAME_ID = 1,
+    MOT_EXTENDED_MATCHES = 2,
+    MOT_EXTENDED_MISSES = 3,
+    MOT_EXTENDED_FALSE_POSITIVES = 4,
+    MOT_EXTENDED_SWITCHES = 5,
+    MOT_EXTENDED_OBJECTS = 6,
+    MOT_EXTENDED_COUNTERS_LEN = 7,
+    /* distance: the sum over all matches */
+    MOT_EXTENDED_DISTANCE_LEN = 1
+};
+
+/* A frame: truth ids with their boxes, predicted ids with theirs, and the largest distance of a match.
+ * Numbers 0, 1, 2, 3, 4, 5, 7. */
+uint32_t mot_extended_update(int32_t *run, size_t run_len,
+                             int32_t *counters, size_t counters_len,
+                             double *distance, size_t distance_len,
+                             const int32_t *gt_ids, size_t gt_ids_len,
+                             const double *gt_bboxes, size_t gt_bboxes_len,
+                             const int32_t *pred_ids, size_t pred_ids_len,
+                             const double *pred_bboxes, size_t pred_bboxes_len,
+                             double threshold);
+
+#ifdef __cplusplus
+}
+#endif
+
+#endif
