@@ -10,6 +10,11 @@ extern "C" {
     fn mot_linear_sum_assignment(
         cost: *const f64, cost_len: usize, rows: usize, cols: usize, max_cost: f64, out: *mut usize, out_len: usize,
     ) -> u32;
+    fn mot_extended_update(
+        run: *mut i32, run_len: usize, counters: *mut i32, counters_len: usize, distance: *mut f64, distance_len: usize,
+        gt_ids: *const i32, gt_ids_len: usize, gt: *const f64, gt_len: usize, pred_ids: *const i32, pred_ids_len: usize,
+        pred: *const f64, pred_len: usize, threshold: f64,
+    ) -> u32;
     fn bench_update(
         gt_ids: *const i32, gt_ids_len: usize, gt: *const f64, gt_len: usize, pred_ids: *const i32, pred_ids_len: usize,
         pred: *const f64, pred_len: usize, threshold: f64, times: u64,
@@ -79,6 +84,22 @@ pub fn linear_sum_assignment(cost: &[f64], rows: usize, cols: usize, max_cost: f
     // SAFETY: as above
     unsafe {
         mot_linear_sum_assignment(cost.as_ptr(), cost.len(), rows, cols, max_cost, out.as_mut_ptr(), out.len())
+    }
+}
+
+/// The extended accumulator over flat numbers: nine columns of 256, seven counters, one distance.
+#[allow(clippy::too_many_arguments)]
+pub fn extended_update(
+    run: &mut [i32], counters: &mut [i32], distance: &mut [f64], gt_ids: &[i32], gt: &[f64], pred_ids: &[i32], pred: &[f64],
+    threshold: f64,
+) -> u32 {
+    // SAFETY: as above
+    unsafe {
+        mot_extended_update(
+            run.as_mut_ptr(), run.len(), counters.as_mut_ptr(), counters.len(), distance.as_mut_ptr(), distance.len(),
+            gt_ids.as_ptr(), gt_ids.len(), gt.as_ptr(), gt.len(), pred_ids.as_ptr(), pred_ids.len(), pred.as_ptr(),
+            pred.len(), threshold,
+        )
     }
 }
 
