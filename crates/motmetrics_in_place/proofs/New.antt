@@ -1,19 +1,14 @@
 -- Runs of zeros with nothing used: no event, a new table, and a sound state. What else the log's places hold is never read. Assumes nothing.
-use mathlib.Core.Path.{_≡_, refl, sym, ap, _∙_}
+use mathlib.Core.Path.{_≡_, refl}
 use mathlib.Core.Bool.{true}
-use mathlib.Core.List.{List, []}
-use Prim.Native.Nat.{ℕ, _+_, _<_}
-use native.Mathlib.Omega.{arith}
-use lib.IntN.{ℤ, pos}
-use lib.ListN.{length, replicate, length-replicate, getD-replicate}
-use lib.Seq.{ext-getD}
+use mathlib.Core.List.{[]}
+use lib.IntN.{pos}
+use lib.ListN.{replicate}
 use Rattle.floats.specs.Float.{zero64}
 use Rattle.slots.specs.Slots.{distinctOf}
 use Rattle.events.specs.Events.{logged}
-use Rattle.partners.specs.declared.Last.{Last}
-use Rattle.partners.specs.Partners.{nobody, newTruths, truthsOf, idsSound}
-use Rattle.truths_in_place.specs.Table.{lastAt, lastsFrom}
-use Rattle.truths_in_place.proofs.Places.{lasts-long, last-at}
+use Rattle.partners.specs.Partners.{newTruths, idsSound}
+use Rattle.truths_in_place.proofs.New as tables
 use Rattle.motmetrics.specs.State.{soundState}
 use Rattle.motmetrics_in_place.specs.declared.Used.{Used}
 use Rattle.motmetrics_in_place.specs.Updated.{Runs, runsOf, stateOf}
@@ -27,19 +22,8 @@ none = record { events = 0; truths = 0 }
 pub no-event : logged (stateOf zeros none .log) ≡ []
 no-event = refl
 
-zero-last : (k : ℕ) → k < 256 → lastAt (replicate 768 (pos 0)) k ≡ nobody
-unfolding lastAt
-zero-last k h = rw (getD-replicate {A = ℤ} 768 (k + 256) (pos 0) (pos 0) (omega arith)) refl
-
-zero-lasts : lastsFrom (replicate 768 (pos 0)) 0 256 ≡ replicate 256 nobody
-zero-lasts =
-    let n = lasts-long (replicate 768 (pos 0)) in
-    ext-getD nobody (lastsFrom (replicate 768 (pos 0)) 0 256) (replicate 256 nobody) (n ∙ sym (length-replicate 256 nobody))
-    (λ (i : ℕ) (h : i < length (lastsFrom (replicate 768 (pos 0)) 0 256)).
-    (let l : i < 256 = omega arith in last-at (replicate 768 (pos 0)) i l ∙ (zero-last i l ∙ sym (getD-replicate {A = Last} 256 i nobody nobody l))))
-
 pub new-table : stateOf zeros none .«last_match» ≡ newTruths
-new-table = ap (λ (l : List Last). truthsOf (replicate 256 (pos 0)) l 0) zero-lasts
+new-table = tables.new-table
 
 pub zeros-sound : soundState (stateOf zeros none) ≡ true
 unfolding soundState idsSound distinctOf

@@ -1,16 +1,14 @@
 -- Whether there is room, as the definitions of a frame's ids say it. Assumes nothing.
 use mathlib.Core.Path.{_≡_, refl, sym, ap, _∙_}
 use mathlib.Core.Bool.{Bool, true, false, cond, not}
-use mathlib.Core.List.{List, map, map-map}
-use Prim.Native.Nat.{ℕ, _≤_, _/_}
-use native.Mathlib.Omega.{arith}
+use mathlib.Core.List.{List, map-map}
+use Prim.Native.Nat.{ℕ, _≤_}
 use borrow.Author.Tests.{ltb-false}
 use lib.Dec.{ltb}
-use lib.IntN.{ℤ, pos}
-use lib.ListN.{length, take, getD}
+use lib.IntN.{ℤ}
+use lib.ListN.{length, take}
 use lib.Seq.{take-take}
 use Rattle.seen.specs.declared.Seen.{Seen}
-use Rattle.seen.specs.declared.Hypotheses.{Hypotheses}
 use Rattle.seen.specs.declared.SeenHypotheses.{SeenHypotheses}
 use Rattle.seen.specs.Seen.{seenAll, seenOf, runAfter, hypothesesOf, seenHypotheses}
 use Rattle.seen.proofs.Growth.{says-fits}
