@@ -45,6 +45,8 @@ extern "C" {
         predicted: *const f64, predicted_len: usize, threshold: f64, times: u64,
     ) -> usize;
     fn bench_metrics_update_in_place(
+        numbers: *mut i32, numbers_len: usize, log_distances: *mut f64, log_distances_len: usize, table: *mut i32, table_len: usize,
+        hypotheses: *mut i32, hypotheses_len: usize,
         ids: *const i32, ids_len: usize, hyp_ids: *const i32, hyp_ids_len: usize, truth: *const f64, truth_len: usize,
         predicted: *const f64, predicted_len: usize, threshold: f64, times: u64,
     ) -> usize;
@@ -162,13 +164,26 @@ pub fn metrics_updates(
     let call = match update {
         Update::Public => bench_metrics_update,
         Update::Sound => bench_metrics_update_sound,
-        Update::InPlace => bench_metrics_update_in_place,
+        Update::InPlace => return metrics_updates_in_place(ids, truth, predicted, threshold, times),
     };
     // SAFETY: as above
     unsafe {
         call(
             ids.as_ptr(), ids.len(), ids.as_ptr(), ids.len(), truth.as_ptr(), truth.len(), predicted.as_ptr(),
             predicted.len(), threshold, times,
+        )
+    }
+}
+
+/// The same on lent runs, new ones each time.
+fn metrics_updates_in_place(ids: &[i32], truth: &[f64], predicted: &[f64], threshold: f64, times: u64) -> usize {
+    let (mut numbers, mut distances, mut table, mut hypotheses) = ([0i32; 4096], [0f64; 1024], [0i32; 768], [0i32; 1024]);
+    // SAFETY: as above
+    unsafe {
+        bench_metrics_update_in_place(
+            numbers.as_mut_ptr(), numbers.len(), distances.as_mut_ptr(), distances.len(), table.as_mut_ptr(), table.len(),
+            hypotheses.as_mut_ptr(), hypotheses.len(), ids.as_ptr(), ids.len(), ids.as_ptr(), ids.len(), truth.as_ptr(),
+            truth.len(), predicted.as_ptr(), predicted.len(), threshold, times,
         )
     }
 }

@@ -59,9 +59,13 @@ pub extern "C" fn bench_metrics_update_sound(
     s.log.used
 }
 
-// The inner update in lent runs.
+// The inner update on runs that are lent by the caller, as in `mot`.
 #[no_mangle]
 pub extern "C" fn bench_metrics_update_in_place(
+    numbers: &mut [i32],
+    log_distances: &mut [f64],
+    table: &mut [i32],
+    hypotheses: &mut [i32],
     gt_ids: &[i32],
     hyp_ids: &[i32],
     gt_boxes: &[f64],
@@ -69,10 +73,18 @@ pub extern "C" fn bench_metrics_update_in_place(
     iou_threshold: f64,
     times: u64,
 ) -> usize {
-    let mut numbers = [0i32; 4096];
-    let mut log_distances = [0.0f64; 1024];
-    let mut table = [0i32; 768];
-    let mut hypotheses = [0i32; 1024];
+    if numbers.len() != 4096 {
+        return 0;
+    }
+    if log_distances.len() != 1024 {
+        return 0;
+    }
+    if table.len() != 768 {
+        return 0;
+    }
+    if hypotheses.len() != 1024 {
+        return 0;
+    }
     let mut used = Used {
         events: 0,
         truths: 0,
@@ -81,10 +93,10 @@ pub extern "C" fn bench_metrics_update_in_place(
     let mut left = times;
     while left > 0 {
         let c = metrics_in_place::update_in_place(
-            &mut numbers,
-            &mut log_distances,
-            &mut table,
-            &mut hypotheses,
+            numbers,
+            log_distances,
+            table,
+            hypotheses,
             used,
             1,
             gt_ids,

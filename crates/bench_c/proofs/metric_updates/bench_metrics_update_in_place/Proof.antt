@@ -1,5 +1,5 @@
 -- `bench_c::metric_updates::bench_metrics_update_in_place` is safe and ends. Assumes nothing.
-use mathlib.Core.Path.{refl, sym, _∙_}
+use mathlib.Core.Path.{sym, _∙_}
 use native.Mathlib.Omega.{arith}
 use Rattle.metrics_in_place.specs.InPlace.{runsOf, Within}
 use Rattle.metrics_in_place.proofs.Kept.{used-kept}
@@ -8,28 +8,36 @@ use Rattle.bench_c.proofs.metric_updates.bench_metrics_update_in_place.
 use Rattle.bench_c.proofs.metric_updates.bench_metrics_update_in_place.Tie as tie
 
 abbrev Inv-loop : tie.InvT-loop
-Inv-loop gt-ids hyp-ids gt-boxes hyp-boxes iou-threshold times numbers₀ log-distances₀ table₀ hypotheses₀ used₀ left₀ numbers log-distances table hypotheses used left =
+Inv-loop numbers₀ log-distances₀ table₀ hypotheses₀ gt-ids hyp-ids gt-boxes hyp-boxes iou-threshold times used₀ left₀ numbers log-distances table hypotheses used left =
     Within (runsOf numbers log-distances table hypotheses) used
 
 abbrev μ-loop : tie.MeasureT-loop
-μ-loop gt-ids hyp-ids gt-boxes hyp-boxes iou-threshold times numbers₀ log-distances₀ table₀ hypotheses₀ used₀ left₀ numbers log-distances table hypotheses used left =
+μ-loop numbers₀ log-distances₀ table₀ hypotheses₀ gt-ids hyp-ids gt-boxes hyp-boxes iou-threshold times used₀ left₀ numbers log-distances table hypotheses used left =
     left
+
+returns : tie.Need-returns Inv-loop μ-loop
+returns c = search needs
+
+returns-2 : tie.Need-returns-2 Inv-loop μ-loop
+returns-2 c = search needs
+
+returns-3 : tie.Need-returns-3 Inv-loop μ-loop
+returns-3 c = search needs
+
+returns-4 : tie.Need-returns-4 Inv-loop μ-loop
+returns-4 c = search needs
 
 loop-holds : tie.Need-loop-holds Inv-loop μ-loop
 loop-holds c =
-    record { numbers = refl; distances = refl; table = refl; hypotheses = refl; few-events = omega arith; few-truths = omega arith; few-hypotheses = omega arith }
-
-slice-aggregate-update-in-place : tie.Need-slice-aggregate-update-in-place Inv-loop μ-loop
-slice-aggregate-update-in-place c = sym (c .before .before .loop .inv .numbers)
-
-slice-aggregate-update-in-place-2 : tie.Need-slice-aggregate-update-in-place-2 Inv-loop μ-loop
-slice-aggregate-update-in-place-2 c = sym (c .before .before .before .loop .inv .distances)
-
-slice-aggregate-update-in-place-3 : tie.Need-slice-aggregate-update-in-place-3 Inv-loop μ-loop
-slice-aggregate-update-in-place-3 c = sym (c .before .before .before .before .loop .inv .table)
-
-slice-aggregate-update-in-place-4 : tie.Need-slice-aggregate-update-in-place-4 Inv-loop μ-loop
-slice-aggregate-update-in-place-4 c = sym (c .before .before .before .before .before .loop .inv .hypotheses)
+    record {
+      numbers = c .before .before .before .if1 .left;
+      distances = c .before .before .if2 .left;
+      table = c .before .if3 .left;
+      hypotheses = c .if4 .left;
+      few-events = omega arith;
+      few-truths = omega arith;
+      few-hypotheses = omega arith;
+    }
 
 update-in-place-requires : tie.Need-update-in-place-requires Inv-loop μ-loop
 update-in-place-requires c κs = c .before .before .before .before .before .loop .inv
@@ -42,10 +50,10 @@ loop-less c = search needs
 
 loop-again : tie.Need-loop-again Inv-loop μ-loop
 loop-again c =
-    let u = c .before .before .before .before .before in
+    let u = c .before .before .before .before .before .before in
     let b = u .before .before .before .before .before .before in
     let l = b .loop in
-    let a = b .before .before .before .args in
+    let a = b .before .before .before .before .before .before .before .before .args in
     let w = l .inv in
     let k = used-kept (runsOf (l .numbers) (l .log-distances) (l .table) (l .hypotheses)) (l .used) _ (a .gt-ids .now) (a .hyp-ids .now) (a .gt-boxes .now) (a .hyp-boxes .now) (a .iou-threshold)
     (w .few-events, w .few-truths, w .few-hypotheses) _ (u .update-in-place .result) (u .update-in-place .ensures) in
@@ -60,8 +68,20 @@ loop-again c =
       few-hypotheses = k .2;
     }
 
-returns : tie.Need-returns Inv-loop μ-loop
-returns c = search needs
+same-length : tie.Need-same-length Inv-loop μ-loop
+same-length c = c .before .loop .inv .numbers ∙ sym (c .before .before .before .before .before .if1 .left)
+
+same-length-2 : tie.Need-same-length-2 Inv-loop μ-loop
+same-length-2 c = c .before .loop .inv .distances ∙ sym (c .before .before .before .before .if2 .left)
+
+same-length-3 : tie.Need-same-length-3 Inv-loop μ-loop
+same-length-3 c = c .before .loop .inv .table ∙ sym (c .before .before .before .if3 .left)
+
+same-length-4 : tie.Need-same-length-4 Inv-loop μ-loop
+same-length-4 c = c .before .loop .inv .hypotheses ∙ sym (c .before .before .if4 .left)
+
+returns-5 : tie.Need-returns-5 Inv-loop μ-loop
+returns-5 c = search needs
 
 pub bench-metrics-update-in-place-spec : {M : Type 1} → statement M
 bench-metrics-update-in-place-spec =
@@ -69,13 +89,17 @@ bench-metrics-update-in-place-spec =
     (tie.spec
     Inv-loop
     μ-loop
+    returns
+    returns-2
+    returns-3
+    returns-4
     loop-holds
-    slice-aggregate-update-in-place
-    slice-aggregate-update-in-place-2
-    slice-aggregate-update-in-place-3
-    slice-aggregate-update-in-place-4
     update-in-place-requires
     sub-left
     loop-less
     loop-again
-    returns)
+    same-length
+    same-length-2
+    same-length-3
+    same-length-4
+    returns-5)
