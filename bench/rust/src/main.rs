@@ -5,6 +5,7 @@ mod boxes;
 mod extended;
 mod metrics;
 mod mot;
+#[allow(dead_code)]
 mod port;
 mod rounds;
 mod search;

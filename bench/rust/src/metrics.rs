@@ -18,8 +18,12 @@ fn case(kind: &str, frame: &Frame, threshold: f64) {
         state.events().len()
     };
     let size = format!("{side} a side, {kind}, threshold {threshold:.1}, {times} frames");
-    for (name, sound) in [("metrics_update::update_sound", true), ("metrics_update::update", false)] {
-        let port = || port::metrics_updates(&frame.ids, &frame.truth, &frame.predicted, black_box(threshold), times, sound);
+    for (name, update) in [
+        ("metrics_in_place::update_in_place", port::Update::InPlace),
+        ("metrics_update::update_sound", port::Update::Sound),
+        ("metrics_update::update", port::Update::Public),
+    ] {
+        let port = || port::metrics_updates(&frame.ids, &frame.truth, &frame.predicted, black_box(threshold), times, update);
         assert_eq!(rust(), port());
         row(name, &size, &mut || { black_box(rust()); }, &mut || { black_box(port()); });
     }

@@ -2,13 +2,31 @@
 
 use crate::{extended, port, rounds::row};
 use nalgebra::DMatrix;
-use norfair::internal::motmetrics::accumulator::MOTAccumulator;
+use norfair::internal::motmetrics::accumulator::{Event, EventType, MOTAccumulator};
 use norfair::internal::motmetrics::iou::compute_iou_distance_matrix;
 use std::hint::black_box;
 
 /// As many frames as a log of 1,024 events holds, whatever is paired.
 pub fn frames(side: usize) -> u64 {
     (1024 / (2 * side)) as u64
+}
+
+/// The port's log on lent columns is the Rust's, event by event.
+fn assert_same_log(events: &[Event], log: &port::Columns) {
+    assert_eq!(events.len(), log.used);
+    for (k, event) in events.iter().enumerate() {
+        let kind = match event.event_type {
+            EventType::Match => 0,
+            EventType::Switch => 1,
+            EventType::Miss => 2,
+            _ => 3,
+        };
+        let truth = event.object_id.unwrap_or(0);
+        let hypothesis = event.hypothesis_id.unwrap_or(0);
+        let column = |c: usize| log.numbers[c * 1024 + k];
+        assert_eq!([event.frame_id, kind, truth, hypothesis], [column(0), column(1), column(2), column(3)]);
+        assert_eq!(event.distance.unwrap_or(0.0), log.distances[k]);
+    }
 }
 
 fn case(kind: &str, ids: &[i32], distances: &[f64]) {
@@ -22,6 +40,9 @@ fn case(kind: &str, ids: &[i32], distances: &[f64]) {
         }
         state.get_events().len()
     };
+    let mut state = MOTAccumulator::new();
+    (0..times).for_each(|_| state.update(1, ids, ids, &matrix));
+    assert_same_log(state.get_events(), &port::mot_log_in_place(ids, distances, times));
     let size = format!("{side} a side, {kind}, {times} frames");
     for (name, update) in [
         ("motmetrics_in_place::update_in_place", port::Update::InPlace),

@@ -10,6 +10,11 @@ extern "C" {
     fn mot_linear_sum_assignment(
         cost: *const f64, cost_len: usize, rows: usize, cols: usize, max_cost: f64, out: *mut usize, out_len: usize,
     ) -> u32;
+    fn mot_extended_update(
+        run: *mut i32, run_len: usize, counters: *mut i32, counters_len: usize, distance: *mut f64, distance_len: usize,
+        gt_ids: *const i32, gt_ids_len: usize, gt: *const f64, gt_len: usize, pred_ids: *const i32, pred_ids_len: usize,
+        pred: *const f64, pred_len: usize, threshold: f64,
+    ) -> u32;
     fn bench_update(
         gt_ids: *const i32, gt_ids_len: usize, gt: *const f64, gt_len: usize, pred_ids: *const i32, pred_ids_len: usize,
         pred: *const f64, pred_len: usize, threshold: f64, times: u64,
@@ -36,6 +41,12 @@ extern "C" {
         predicted: *const f64, predicted_len: usize, threshold: f64, times: u64,
     ) -> usize;
     fn bench_metrics_update_sound(
+        ids: *const i32, ids_len: usize, hyp_ids: *const i32, hyp_ids_len: usize, truth: *const f64, truth_len: usize,
+        predicted: *const f64, predicted_len: usize, threshold: f64, times: u64,
+    ) -> usize;
+    fn bench_metrics_update_in_place(
+        numbers: *mut i32, numbers_len: usize, log_distances: *mut f64, log_distances_len: usize, table: *mut i32, table_len: usize,
+        hypotheses: *mut i32, hypotheses_len: usize,
         ids: *const i32, ids_len: usize, hyp_ids: *const i32, hyp_ids_len: usize, truth: *const f64, truth_len: usize,
         predicted: *const f64, predicted_len: usize, threshold: f64, times: u64,
     ) -> usize;
@@ -78,6 +89,22 @@ pub fn linear_sum_assignment(cost: &[f64], rows: usize, cols: usize, max_cost: f
     }
 }
 
+/// The extended accumulator over flat numbers: nine columns of 256, seven counters, one distance.
+#[allow(clippy::too_many_arguments)]
+pub fn extended_update(
+    run: &mut [i32], counters: &mut [i32], distance: &mut [f64], gt_ids: &[i32], gt: &[f64], pred_ids: &[i32], pred: &[f64],
+    threshold: f64,
+) -> u32 {
+    // SAFETY: as above
+    unsafe {
+        mot_extended_update(
+            run.as_mut_ptr(), run.len(), counters.as_mut_ptr(), counters.len(), distance.as_mut_ptr(), distance.len(),
+            gt_ids.as_ptr(), gt_ids.len(), gt.as_ptr(), gt.len(), pred_ids.as_ptr(), pred_ids.len(), pred.as_ptr(),
+            pred.len(), threshold,
+        )
+    }
+}
+
 /// The extended accumulator's total distance after so many updates by one frame, truths and predictions with the same ids.
 pub fn updates(ids: &[i32], truth: &[f64], predicted: &[f64], threshold: f64, times: u64, update: Update) -> f64 {
     let call = match update {
@@ -107,24 +134,56 @@ pub fn mot_updates(ids: &[i32], distances: &[f64], times: u64, update: Update) -
 
 /// The same on lent columns, new ones each time.
 fn mot_updates_in_place(ids: &[i32], distances: &[f64], times: u64) -> usize {
-    let (mut numbers, mut log_distances, mut table) = ([0i32; 4096], [0f64; 1024], [0i32; 768]);
+    mot_log_in_place(ids, distances, times).used
+}
+
+/// A log as columns: frames, kinds, truths and hypotheses, 1,024 of each, and distances.
+pub struct Columns {
+    pub numbers: [i32; 4096],
+    pub distances: [f64; 1024],
+    pub used: usize,
+}
+
+pub fn mot_log_in_place(ids: &[i32], distances: &[f64], times: u64) -> Columns {
+    let mut log = Columns { numbers: [0; 4096], distances: [0.0; 1024], used: 0 };
+    let mut table = [0i32; 768];
     // SAFETY: as above
-    unsafe {
+    log.used = unsafe {
         bench_mot_update_in_place(
-            numbers.as_mut_ptr(), numbers.len(), log_distances.as_mut_ptr(), log_distances.len(), table.as_mut_ptr(), table.len(),
+            log.numbers.as_mut_ptr(), log.numbers.len(), log.distances.as_mut_ptr(), log.distances.len(), table.as_mut_ptr(), table.len(),
             ids.as_ptr(), ids.len(), ids.as_ptr(), ids.len(), distances.as_ptr(), distances.len(), times,
         )
-    }
+    };
+    log
 }
 
 /// How many events module 4's accumulator has logged after so many updates by one frame.
-pub fn metrics_updates(ids: &[i32], truth: &[f64], predicted: &[f64], threshold: f64, times: u64, sound: bool) -> usize {
-    let call = if sound { bench_metrics_update_sound } else { bench_metrics_update };
+pub fn metrics_updates(
+    ids: &[i32], truth: &[f64], predicted: &[f64], threshold: f64, times: u64, update: Update,
+) -> usize {
+    let call = match update {
+        Update::Public => bench_metrics_update,
+        Update::Sound => bench_metrics_update_sound,
+        Update::InPlace => return metrics_updates_in_place(ids, truth, predicted, threshold, times),
+    };
     // SAFETY: as above
     unsafe {
         call(
             ids.as_ptr(), ids.len(), ids.as_ptr(), ids.len(), truth.as_ptr(), truth.len(), predicted.as_ptr(),
             predicted.len(), threshold, times,
+        )
+    }
+}
+
+/// The same on lent runs, new ones each time.
+fn metrics_updates_in_place(ids: &[i32], truth: &[f64], predicted: &[f64], threshold: f64, times: u64) -> usize {
+    let (mut numbers, mut distances, mut table, mut hypotheses) = ([0i32; 4096], [0f64; 1024], [0i32; 768], [0i32; 1024]);
+    // SAFETY: as above
+    unsafe {
+        bench_metrics_update_in_place(
+            numbers.as_mut_ptr(), numbers.len(), distances.as_mut_ptr(), distances.len(), table.as_mut_ptr(), table.len(),
+            hypotheses.as_mut_ptr(), hypotheses.len(), ids.as_ptr(), ids.len(), ids.as_ptr(), ids.len(), truth.as_ptr(),
+            truth.len(), predicted.as_ptr(), predicted.len(), threshold, times,
         )
     }
 }

@@ -1,5 +1,6 @@
 // Updates of module 4's MOTAccumulator by one frame so many times, from a new state; how many events are logged then.
 use metrics::MOTAccumulator;
+use metrics_in_place::Used;
 
 // The public update.
 #[no_mangle]
@@ -56,4 +57,56 @@ pub extern "C" fn bench_metrics_update_sound(
         left = left - 1;
     }
     s.log.used
+}
+
+// The inner update on runs that are lent by the caller, as in `mot`.
+#[no_mangle]
+pub extern "C" fn bench_metrics_update_in_place(
+    numbers: &mut [i32],
+    log_distances: &mut [f64],
+    table: &mut [i32],
+    hypotheses: &mut [i32],
+    gt_ids: &[i32],
+    hyp_ids: &[i32],
+    gt_boxes: &[f64],
+    hyp_boxes: &[f64],
+    iou_threshold: f64,
+    times: u64,
+) -> usize {
+    if numbers.len() != 4096 {
+        return 0;
+    }
+    if log_distances.len() != 1024 {
+        return 0;
+    }
+    if table.len() != 768 {
+        return 0;
+    }
+    if hypotheses.len() != 1024 {
+        return 0;
+    }
+    let mut used = Used {
+        events: 0,
+        truths: 0,
+        hypotheses: 0,
+    };
+    let mut left = times;
+    while left > 0 {
+        let c = metrics_in_place::update_in_place(
+            numbers,
+            log_distances,
+            table,
+            hypotheses,
+            used,
+            1,
+            gt_ids,
+            hyp_ids,
+            gt_boxes,
+            hyp_boxes,
+            iou_threshold,
+        );
+        used = c.used;
+        left = left - 1;
+    }
+    used.events
 }

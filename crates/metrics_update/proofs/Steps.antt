@@ -1,8 +1,8 @@
 -- The steps of the update, by the number that they answer. Assumes nothing.
-use mathlib.Core.Path.{_≡_, refl, sym, _∙_}
+use mathlib.Core.Path.{_≡_, refl, sym, _∙_, subst}
 use mathlib.Core.Bool.{true, false}
 use mathlib.Core.List.{List}
-use Prim.Native.Nat.{ℕ, _+_, _-_, _<_, _≤_, _/_}
+use Prim.Native.Nat.{ℕ, _+_, _*_, _-_, _<_, _≤_, _/_}
 use native.Mathlib.Omega.{arith}
 use borrow.Author.Tests.{lt-ltb, le-ltb, eq-eqb, ne-eqb}
 use lib.IntN.{ℤ}
@@ -12,7 +12,7 @@ use Rattle.matrix.specs.Matrix.{matrixOf, roomNo, iouMatrixNo}
 use Rattle.matrix.specs.Matrix as matrices
 use Rattle.matrix.specs.declared.Measure.the-variants.{Shared}
 use Rattle.shape.specs.Shape.{shapeNo}
-use Rattle.shape.proofs.Sides.{Side, sides, room}
+use Rattle.shape.proofs.Sides.{Side, sides}
 use Rattle.events.specs.declared.Log.{Log}
 use Rattle.seen.specs.declared.SeenHypotheses.{SeenHypotheses}
 use Rattle.seen.specs.Seen.{seenHypotheses}
@@ -74,10 +74,10 @@ module _ (s : MOTAccumulator) (frame : ℤ) (truths hypotheses : List ℤ) (gt h
     abbrev pub shares : List Float
     shares = matrixOf Shared gt hyp (length truths)
 
-    -- the matrix is not refused
-    pub shares-no : iouMatrixNo gt hyp 4096 ≡ 0
+    -- the matrix is not refused where there is room
+    pub shares-no : (places : ℕ) → length truths * length hypotheses ≤ places → iouMatrixNo gt hyp places ≡ 0
     unfolding iouMatrixNo matrices.shapeNo roomNo
-    shares-no =
+    shares-no places h =
         let a = both-sides .0 in
         let b = both-sides .1 in
         let gf = a .few in
@@ -86,7 +86,7 @@ module _ (s : MOTAccumulator) (frame : ℤ) (truths hypotheses : List ℤ) (gt h
         let hb = b .boxes in
         let gs : length gt / 4 ≤ 64 = omega arith in
         let hs : length hyp / 4 ≤ 64 = omega arith in
-        simp (le-ltb _ _ gs, le-ltb _ _ hs, eq-eqb _ _ (a .whole), eq-eqb _ _ (b .whole), le-ltb _ _ (room _ _ gs hs))
+        simp (le-ltb _ _ gs, le-ltb _ _ hs, eq-eqb _ _ (a .whole), eq-eqb _ _ (b .whole), le-ltb _ _ (subst (λ (n : ℕ). n ≤ places) (λ j. gb j * hb j) h))
 
     pub framed : pairedAfter s frame truths hypotheses shares threshold ≡ frameAfter s frame truths hypotheses gt hyp threshold
     unfolding frameAfter

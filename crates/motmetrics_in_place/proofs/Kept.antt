@@ -11,11 +11,11 @@ use lib.ListN.{length, take}
 use lib.Ieee.{Float}
 use Rattle.square.proofs.Truth.{dec}
 use Rattle.events.specs.declared.Event.{Event}
-use Rattle.partners.specs.declared.Truths.{Truths}
 use Rattle.partners.specs.declared.Booked.{Booked}
-use Rattle.partners.specs.Partners.{Pair, pairsOf, tableOf, matchAll, bookedOf}
+use Rattle.partners.specs.Partners.{pairsOf}
 use Rattle.greedy_pairs.specs.Pairs.{byDistance}
 use Rattle.booking.specs.Booking.{eventsOf, logAfter}
+use Rattle.truths_in_place.proofs.Room.{booked-few}
 use Rattle.motmetrics.specs.declared.MOTAccumulator.{MOTAccumulator}
 use Rattle.motmetrics_update.specs.declared.Updated.{Updated as After}
 use Rattle.motmetrics_update.specs.Update.{shapeNo, matchedBy, bookedWith, bookOf, frameAfter}
@@ -25,13 +25,6 @@ use Rattle.motmetrics_in_place.specs.Updated.{Runs, Updated}
 
 abbrev Few : MOTAccumulator → Type 0
 Few s = (s .log .used ≤ 1024) × (s .«last_match» .used ≤ 256)
-
-booked-few : (t : Truths) (ps : List Pair) → t .used ≤ 256 → bookedOf t ps .truths .used ≤ 256
-unfolding bookedOf
-booked-few t ps h = ⊎-elim
-    (λ (e : ltb 256 (length (matchAll (tableOf t) ps .ids)) ≡ true). rw e h)
-    (λ (e : ltb 256 (length (matchAll (tableOf t) ps .ids)) ≡ false). rw e (ltb-false 256 (length (matchAll (tableOf t) ps .ids)) e))
-    (dec (ltb 256 (length (matchAll (tableOf t) ps .ids))))
 
 with-few : (s : MOTAccumulator) (b : Booked) (es : List Event) → Few s → b .truths .used ≤ 256 → Few (bookedWith s b es .state)
 unfolding logAfter

@@ -1,4 +1,4 @@
--- The matrix of a frame in shape, written over 4,096 places: its part of them. Assumes nothing.
+-- The matrix of a frame in shape, written over places that have room for it: its part of them. Assumes nothing.
 use mathlib.Core.Path.{_≡_, sym, ap, _∙_}
 use mathlib.Core.List.{List}
 use Prim.Native.Nat.{ℕ, _*_, _≤_}
@@ -18,16 +18,16 @@ module _ (m : Measure) (gi : ℕ) (gt : List Float) (pi : ℕ) (pred : List Floa
   pub matrix-size : length (matrixOf m gt pred gi) ≡ gi * pi
   matrix-size = length-matrix m gt pred gi ∙ ap (λ (k : ℕ). gi * k) (sym (b .boxes))
 
-  module _ (number : ℕ) (good : number ≡ 0) (zeros out : List Float) (z : length zeros ≡ 4096) (o : out ≡ matrixAfter m number gt pred zeros) where
+  module _ (number : ℕ) (good : number ≡ 0) (zeros out : List Float) (z : gi * pi ≤ length zeros) (o : out ≡ matrixAfter m number gt pred zeros) where
     written : out ≡ overwrite (matrixOf m gt pred gi) zeros
     unfolding matrixAfter
     written = o ∙ (ap (λ (k : ℕ). matrixAfter m k gt pred zeros) good ∙ ap (λ (k : ℕ). overwrite (matrixOf m gt pred k) zeros) (sym (a .boxes)))
 
-    pub out-size : length out ≡ 4096
-    out-size = let f = fit in let n = matrix-size in ap length written ∙ (length-overwrite (matrixOf m gt pred gi) zeros (omega arith) ∙ z)
+    pub out-size : length out ≡ length zeros
+    out-size = let n = matrix-size in ap length written ∙ length-overwrite (matrixOf m gt pred gi) zeros (omega arith)
 
     pub has-room : gi * pi ≤ length out
-    has-room = let f = fit in let l = out-size in omega arith
+    has-room = let l = out-size in omega arith
 
     pub part : take (gi * pi) out ≡ matrixOf m gt pred gi
     part = ap (take (gi * pi)) written ∙ take-at (matrixOf m gt pred gi) _ (gi * pi) matrix-size

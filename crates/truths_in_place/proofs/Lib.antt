@@ -5,3 +5,4 @@ pub mod Gathering
 pub mod Room
 pub mod Turns
 pub mod Seeing
+pub mod New

@@ -1,23 +1,21 @@
 -- Whether there is room, as the definitions of a frame's ids say it. Assumes nothing.
 use mathlib.Core.Path.{_≡_, refl, sym, ap, _∙_}
 use mathlib.Core.Bool.{Bool, true, false, cond, not}
-use mathlib.Core.List.{List, map, map-map}
-use Prim.Native.Nat.{ℕ, _≤_, _/_}
-use native.Mathlib.Omega.{arith}
+use mathlib.Core.List.{List, map-map}
+use Prim.Native.Nat.{ℕ, _≤_}
 use borrow.Author.Tests.{ltb-false}
 use lib.Dec.{ltb}
-use lib.IntN.{ℤ, pos}
-use lib.ListN.{length, take, getD}
+use lib.IntN.{ℤ}
+use lib.ListN.{length, take}
 use lib.Seq.{take-take}
 use Rattle.seen.specs.declared.Seen.{Seen}
-use Rattle.seen.specs.declared.Hypotheses.{Hypotheses}
 use Rattle.seen.specs.declared.SeenHypotheses.{SeenHypotheses}
 use Rattle.seen.specs.Seen.{seenAll, seenOf, runAfter, hypothesesOf, seenHypotheses}
 use Rattle.seen.proofs.Growth.{says-fits}
 use Rattle.partners.specs.declared.Booked.{Booked}
 use Rattle.partners.specs.declared.SeenTruths.{SeenTruths}
 use Rattle.partners.specs.declared.Truths.{Truths}
-use Rattle.partners.specs.Partners.{Pair, pairAt, pairsOf, tableOf, matchAll, withTable, seenTable, seenTruths, bookedOf}
+use Rattle.partners.specs.Partners.{Pair, pairAt, pairsOf, tableOf, matchAll, none, seenTruths, bookedOf}
 use Rattle.partners.proofs.Meaning.{truthOf, ids-are}
 use Rattle.truths_in_place.specs.Table.{truthsIn, fitIn, rowIdsOf}
 
@@ -33,6 +31,17 @@ pick-hypotheses false x y e f = f
 pick-booked : (b : Bool) (x y : Booked) → x .full ≡ true → y .full ≡ false → cond b x y .full ≡ b
 pick-booked true x y e f = e
 pick-booked false x y e f = f
+
+-- a booked table has no more ids than places
+few-by : (b : Bool) (x y : Booked) → x .truths .used ≤ 256 → (b ≡ false → y .truths .used ≤ 256) → cond b x y .truths .used ≤ 256
+few-by true x y h f = h
+few-by false x y h f = f refl
+
+pub booked-few : (t : Truths) (ps : List Pair) → t .used ≤ 256 → bookedOf t ps .truths .used ≤ 256
+unfolding bookedOf
+booked-few t ps h =
+    let n = length (matchAll (tableOf t) ps .ids) in
+    few-by (ltb 256 n) (record { full = true; truths = t; switched = none }) _ h (λ (e : ltb 256 n ≡ false). ltb-false 256 n e)
 
 -- ---- the truth ids
 module _ (table : List ℤ) (used : ℕ) (h : used ≤ 256) where

@@ -13,7 +13,6 @@ use Rattle.seen.specs.declared.Seen.{Seen}
 use Rattle.seen.specs.Seen.{over, seenAll, seenOf, runAfter}
 use Rattle.seen.proofs.Growth.{all-long, says-fits}
 use Rattle.partners.specs.declared.Last.{Last}
-use Rattle.partners.specs.declared.Truths.{Truths}
 use Rattle.partners.specs.Partners.{nobody, tableOf, withTable, seenTable, seenTruths}
 use Rattle.truths_in_place.specs.Table.{lastFrom, lastAt, truthsIn, cleared, seenPut, TruthsSeen}
 use Rattle.truths_in_place.proofs.Places.{lastsIn, lasts-long, last-at}
@@ -181,5 +180,6 @@ module _ (table : List ℤ) (long : length table ≡ 768) (used : ℕ) (h : used
               (λ j. truthsIn (n j) (counted j))
               ∙ (seen-is table long used seen grown few
               ∙ (ap (λ (l : List ℤ). withTable t (seenTable (tableOf t) l)) (sym seen-as) ∙ sym (rw w refl)));
+          count = counted;
           numbers = n;
         }

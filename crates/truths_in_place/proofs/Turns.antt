@@ -18,7 +18,6 @@ use Rattle.partners.specs.declared.Last.{Last}
 use Rattle.partners.specs.declared.Booked.{Booked}
 use Rattle.partners.specs.Partners.{nobody, Pair, lastIn, none, bookedOf}
 use Rattle.partners.proofs.Turns as partners
-use Rattle.truths_in_place.specs.declared.Matched.{Matched}
 use Rattle.truths_in_place.specs.Table.{lastFrom, lastAt, truthsIn, pairsPut, MatchesBooked}
 use Rattle.truths_in_place.proofs.Places.{lastsIn, lasts-long, last-at, put-long, put-id, put-last}
 

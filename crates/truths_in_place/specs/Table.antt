@@ -66,7 +66,8 @@ cleared run from to = over (take from run ++ replicate (to - from) (pos 0)) run
 unfoldable pub seenPut : List ℤ → ℕ → List ℤ → List ℤ
 seenPut table used l = cleared (cleared (over l table) (256 + used) (256 + length l)) (512 + used) (512 + length l)
 
--- THE TRUTH IDS, SEEN where there is room: the table of `seenTruths`, and every number of the run
+-- THE TRUTH IDS, SEEN where there is room: the table of `seenTruths`, how many they are, and every number of the run
 pub record TruthsSeen (table : List ℤ) (used : ℕ) (ids : List ℤ) (after : List ℤ) (r : ℕ) : Type 0 where
   pub truths : truthsIn after r ≡ seenTruths (truthsIn table used) ids .truths
+  pub count : r ≡ length (seenAll (take used table) ids)
   pub numbers : after ≡ seenPut table used (seenAll (take used table) ids)

@@ -42,6 +42,10 @@ fn side(numbers: &mut Numbers) -> usize {
     }
 }
 
+pub fn rows(run: &[f64]) -> Vec<Vec<f64>> {
+    run.chunks(4).map(<[f64]>::to_vec).collect()
+}
+
 /// One call of each matrix; None, or what differs.
 pub fn call(numbers: &mut Numbers) -> Option<String> {
     let (h, w) = (side(numbers), side(numbers));
@@ -49,7 +53,6 @@ pub fn call(numbers: &mut Numbers) -> Option<String> {
     let mut out = vec![7.5; h * w + 1];
     let number = port::compute_iou_distance_matrix(&truth, &predicted, &mut out);
     let bad = h > 0 && w > 0 && (any_bad(&truth) || any_bad(&predicted));
-    let rows = |run: &[f64]| run.chunks(4).map(<[f64]>::to_vec).collect::<Vec<_>>();
     let expected = if bad { vec![] } else { compute_iou_distance_matrix(&rows(&truth), &rows(&predicted)).concat() };
     let kept = if bad { &out[..] } else { &out[h * w..] };
     if number != if bad { 4 } else { 0 } || kept.iter().any(|&x| x != 7.5) || differs(&expected, &out) {

@@ -7,6 +7,7 @@ mod numbers;
 #[path = "../port.rs"]
 mod port;
 mod search;
+mod updates;
 
 use numbers::Numbers;
 use std::time::{Duration, Instant};
@@ -17,16 +18,21 @@ const ROUND: u64 = 2000;
 fn soak(minutes: f64, seed: u64) -> Result<(), String> {
     let (began, whole) = (Instant::now(), Duration::from_secs_f64(minutes * 60.0));
     let mut numbers = Numbers::new(seed);
-    let (mut boxes, mut searches) = (0u64, 0u64);
+    let (mut boxes, mut searches, mut updates) = (0u64, 0u64, 0u64);
     while began.elapsed() < whole {
         for _ in 0..ROUND {
             boxes::call(&mut numbers).map_or(Ok(()), Err)?;
             search::call(&mut numbers).map_or(Ok(()), Err)?;
+            updates += updates::sequence(&mut numbers)?;
         }
         boxes += 2 * ROUND;
         searches += ROUND;
     }
-    println!("seed {seed}: no difference in {boxes} matrices of boxes and {searches} searches ({} s)", began.elapsed().as_secs());
+    let seconds = began.elapsed().as_secs();
+    println!(
+        "seed {seed}: no difference in {boxes} matrices of boxes, {searches} searches and {updates} updates of the extended \
+         accumulator ({seconds} s)"
+    );
     Ok(())
 }
 

@@ -33,21 +33,21 @@ accepted c =
     let e = c .before .before in
     let a = e .before .before .before .before .args in
     c .iou-matrix .ensures .0
-    ∙ law.shares-no (a .s) (a .frame) (a .gt-ids .now) (a .hyp-ids .now) (a .gt-boxes .now) (a .hyp-boxes .now) (a .iou-threshold) (e .before .shape-no .result) (e .before .shape-no .ensures) (e .if1 .left)
+    ∙ law.shares-no (a .s) (a .frame) (a .gt-ids .now) (a .hyp-ids .now) (a .gt-boxes .now) (a .hyp-boxes .now) (a .iou-threshold) (e .before .shape-no .result) (e .before .shape-no .ensures) (e .if1 .left) 4096 (fit e)
 
 has-room : (c : tie.After-iou-matrix) → let a = c .before .before .before .before .before .before .args in
     length (a .gt-ids .now) * length (a .hyp-ids .now) ≤ length (c .iou-matrix .last .1 .1 .0)
 has-room c =
     let e = c .before .before in
     let a = e .before .before .before .before .args in
-    parts.has-room Shared (length (a .gt-ids .now)) (a .gt-boxes .now) (length (a .hyp-ids .now)) (a .hyp-boxes .now) (both e .0) (both e .1) (c .iou-matrix .result) (accepted c) _ _ refl (c .iou-matrix .ensures .1)
+    parts.has-room Shared (length (a .gt-ids .now)) (a .gt-boxes .now) (length (a .hyp-ids .now)) (a .hyp-boxes .now) (both e .0) (both e .1) (c .iou-matrix .result) (accepted c) _ _ (fit e) (c .iou-matrix .ensures .1)
 
 part : (c : tie.After-iou-matrix) → let a = c .before .before .before .before .before .before .args in
     take (length (a .gt-ids .now) * length (a .hyp-ids .now)) (c .iou-matrix .last .1 .1 .0) ≡ matrixOf Shared (a .gt-boxes .now) (a .hyp-boxes .now) (length (a .gt-ids .now))
 part c =
     let e = c .before .before in
     let a = e .before .before .before .before .args in
-    parts.part Shared (length (a .gt-ids .now)) (a .gt-boxes .now) (length (a .hyp-ids .now)) (a .hyp-boxes .now) (both e .0) (both e .1) (c .iou-matrix .result) (accepted c) _ _ refl (c .iou-matrix .ensures .1)
+    parts.part Shared (length (a .gt-ids .now)) (a .gt-boxes .now) (length (a .hyp-ids .now)) (a .hyp-boxes .now) (both e .0) (both e .1) (c .iou-matrix .result) (accepted c) _ _ (fit e) (c .iou-matrix .ensures .1)
 
 part-size : (c : tie.After-iou-matrix) → let a = c .before .before .before .before .before .before .args in
     length (take (length (a .gt-ids .now) * length (a .hyp-ids .now)) (c .iou-matrix .last .1 .1 .0)) ≡ length (a .gt-ids .now) * length (a .hyp-ids .now)

@@ -1,5 +1,5 @@
 -- `truths_in_place::book_matches` meets its contract. The pairs passed are booked in the run, and the rest are to come. Assumes nothing.
-use mathlib.Core.Path.{_≡_, refl, sym, ap, _∙_}
+use mathlib.Core.Path.{_≡_, sym, ap, _∙_}
 use Prim.Native.Nat.{ℕ, _<_, _≤_, _/_, _%_, _-_}
 use native.Mathlib.Omega.{arith}
 use lib.IntN.{pos}

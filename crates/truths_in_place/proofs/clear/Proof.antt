@@ -3,7 +3,6 @@ use mathlib.Core.Path.{_≡_}
 use Prim.Native.Nat.{_≤_, _-_}
 use native.Mathlib.Omega.{arith}
 use lib.IntN.{pos}
-use lib.ListN.{length}
 use Rattle.partners.proofs.Fresh.{Filled, none-filled, one-filled, all-filled}
 use borrow.Author.Needs.{needs}
 use Rattle.truths_in_place.proofs.clear.Statement.{statement}
