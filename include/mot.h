@@ -12,7 +12,7 @@
  *      long; the solver is given 0 rows with columns; the runs of a state are of another length than the state's
  *   4  a box that is read has x_max <= x_min or y_max <= y_min
  *   5  after the frame a table would hold more distinct ids than it can
- *   6  an output is shorter than what the call would write
+ *   6  a log would pass its capacity, or an output is shorter than what the call would write
  *   7  a counter would pass 2,147,483,647
  * The lowest number that applies is given. Beside a refusal all lent memory keeps its contents.
  *
@@ -98,6 +98,40 @@ uint32_t mot_extended_update(int32_t *run, size_t run_len,
                              const int32_t *pred_ids, size_t pred_ids_len,
                              const double *pred_bboxes, size_t pred_bboxes_len,
                              double threshold);
+
+/* ---- module 3's accumulator of events
+ * Its state is four runs that the caller keeps. All zeros are a new state. */
+
+enum {
+    /* numbers: four columns of 1,024, a place for each event in order */
+    MOT_EVENT_FRAME = 0,
+    MOT_EVENT_KIND = 1024,       /* 0 match, 1 switch, 2 miss, 3 false positive */
+    MOT_EVENT_OBJECT = 2048,     /* 0 for a false positive */
+    MOT_EVENT_HYPOTHESIS = 3072, /* 0 for a miss */
+    MOT_EVENT_NUMBERS_LEN = 4096,
+    /* log_distances: one for each event, 0.0 where it has none */
+    MOT_EVENT_DISTANCES_LEN = 1024,
+    /* table: three columns of 256, the last match of each object id */
+    MOT_LAST_OBJECT = 0,
+    MOT_LAST_KNOWN = 256,        /* 0, or the next column holds the hypothesis */
+    MOT_LAST_HYPOTHESIS = 512,
+    MOT_LAST_LEN = 768,
+    /* used */
+    MOT_USED_EVENTS = 0,
+    MOT_USED_OBJECTS = 1,
+    MOT_USED_LEN = 2
+};
+
+/* A frame: object ids, hypothesis ids, and the distances of objects by hypotheses, row by row; one that isn't finite is no pair.
+ * Numbers 0, 1, 2, 3, 5, 6 (the log would pass 1,024 events). */
+uint32_t mot_motmetrics_update(int32_t *numbers, size_t numbers_len,
+                               double *log_distances, size_t log_distances_len,
+                               int32_t *table, size_t table_len,
+                               size_t *used, size_t used_len,
+                               int32_t frame_id,
+                               const int32_t *object_ids, size_t object_ids_len,
+                               const int32_t *hypothesis_ids, size_t hypothesis_ids_len,
+                               const double *distances, size_t distances_len);
 
 #ifdef __cplusplus
 }
