@@ -133,6 +133,32 @@ uint32_t mot_motmetrics_update(int32_t *numbers, size_t numbers_len,
                                const int32_t *hypothesis_ids, size_t hypothesis_ids_len,
                                const double *distances, size_t distances_len);
 
+/* ---- module 4's accumulator of events
+ * Its state is five runs that the caller keeps: numbers, log_distances and table are laid out as above, where an object id is a
+ * truth id that was seen. All zeros are a new state. */
+
+enum {
+    /* hypotheses: the ids that were seen, in the order of first appearance */
+    MOT_HYPOTHESES_LEN = 1024,
+    /* used: events and truth ids as above, then the hypothesis ids */
+    MOT_USED_HYPOTHESES = 2,
+    MOT_METRICS_USED_LEN = 3
+};
+
+/* A frame: truth ids with their boxes, hypothesis ids with theirs, and the least IoU of a match. Stored is 1.0 - IoU.
+ * Numbers 0, 1, 2, 3, 5, 6. */
+uint32_t mot_metrics_update(int32_t *numbers, size_t numbers_len,
+                            double *log_distances, size_t log_distances_len,
+                            int32_t *table, size_t table_len,
+                            int32_t *hypotheses, size_t hypotheses_len,
+                            size_t *used, size_t used_len,
+                            int32_t frame,
+                            const int32_t *gt_ids, size_t gt_ids_len,
+                            const int32_t *hyp_ids, size_t hyp_ids_len,
+                            const double *gt_boxes, size_t gt_boxes_len,
+                            const double *hyp_boxes, size_t hyp_boxes_len,
+                            double iou_threshold);
+
 #ifdef __cplusplus
 }
 #endif
