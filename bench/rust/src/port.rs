@@ -15,6 +15,17 @@ extern "C" {
         gt_ids: *const i32, gt_ids_len: usize, gt: *const f64, gt_len: usize, pred_ids: *const i32, pred_ids_len: usize,
         pred: *const f64, pred_len: usize, threshold: f64,
     ) -> u32;
+    fn mot_motmetrics_update(
+        numbers: *mut i32, numbers_len: usize, log_distances: *mut f64, log_distances_len: usize, table: *mut i32,
+        table_len: usize, used: *mut usize, used_len: usize, frame_id: i32, ids: *const i32, ids_len: usize,
+        hyp_ids: *const i32, hyp_ids_len: usize, distances: *const f64, distances_len: usize,
+    ) -> u32;
+    fn mot_metrics_update(
+        numbers: *mut i32, numbers_len: usize, log_distances: *mut f64, log_distances_len: usize, table: *mut i32,
+        table_len: usize, hypotheses: *mut i32, hypotheses_len: usize, used: *mut usize, used_len: usize, frame: i32,
+        ids: *const i32, ids_len: usize, hyp_ids: *const i32, hyp_ids_len: usize, truth: *const f64, truth_len: usize,
+        predicted: *const f64, predicted_len: usize, threshold: f64,
+    ) -> u32;
     fn bench_update(
         gt_ids: *const i32, gt_ids_len: usize, gt: *const f64, gt_len: usize, pred_ids: *const i32, pred_ids_len: usize,
         pred: *const f64, pred_len: usize, threshold: f64, times: u64,
@@ -101,6 +112,39 @@ pub fn extended_update(
             run.as_mut_ptr(), run.len(), counters.as_mut_ptr(), counters.len(), distance.as_mut_ptr(), distance.len(),
             gt_ids.as_ptr(), gt_ids.len(), gt.as_ptr(), gt.len(), pred_ids.as_ptr(), pred_ids.len(), pred.as_ptr(),
             pred.len(), threshold,
+        )
+    }
+}
+
+/// Module 3's accumulator over flat numbers: a log's four columns of 1,024 and its distances, a table's three of 256.
+#[allow(clippy::too_many_arguments)]
+pub fn motmetrics_update(
+    numbers: &mut [i32], log_distances: &mut [f64], table: &mut [i32], used: &mut [usize], frame_id: i32, ids: &[i32],
+    hyp_ids: &[i32], distances: &[f64],
+) -> u32 {
+    // SAFETY: as above
+    unsafe {
+        mot_motmetrics_update(
+            numbers.as_mut_ptr(), numbers.len(), log_distances.as_mut_ptr(), log_distances.len(), table.as_mut_ptr(),
+            table.len(), used.as_mut_ptr(), used.len(), frame_id, ids.as_ptr(), ids.len(), hyp_ids.as_ptr(), hyp_ids.len(),
+            distances.as_ptr(), distances.len(),
+        )
+    }
+}
+
+/// Module 4's, with the 1,024 hypothesis ids beside them.
+#[allow(clippy::too_many_arguments)]
+pub fn metrics_update(
+    numbers: &mut [i32], log_distances: &mut [f64], table: &mut [i32], hypotheses: &mut [i32], used: &mut [usize],
+    frame: i32, ids: &[i32], hyp_ids: &[i32], truth: &[f64], predicted: &[f64], threshold: f64,
+) -> u32 {
+    // SAFETY: as above
+    unsafe {
+        mot_metrics_update(
+            numbers.as_mut_ptr(), numbers.len(), log_distances.as_mut_ptr(), log_distances.len(), table.as_mut_ptr(),
+            table.len(), hypotheses.as_mut_ptr(), hypotheses.len(), used.as_mut_ptr(), used.len(), frame, ids.as_ptr(),
+            ids.len(), hyp_ids.as_ptr(), hyp_ids.len(), truth.as_ptr(), truth.len(), predicted.as_ptr(), predicted.len(),
+            threshold,
         )
     }
 }

@@ -2,6 +2,7 @@
 //! Usage: soak MINUTES SEED | soak exhaustive
 
 mod boxes;
+mod logs;
 mod numbers;
 #[allow(dead_code)]
 #[path = "../port.rs"]
@@ -18,20 +19,23 @@ const ROUND: u64 = 2000;
 fn soak(minutes: f64, seed: u64) -> Result<(), String> {
     let (began, whole) = (Instant::now(), Duration::from_secs_f64(minutes * 60.0));
     let mut numbers = Numbers::new(seed);
-    let (mut boxes, mut searches, mut updates) = (0u64, 0u64, 0u64);
+    let (mut boxes, mut searches, mut updates) = (0u64, 0u64, [0u64; 3]);
     while began.elapsed() < whole {
         for _ in 0..ROUND {
             boxes::call(&mut numbers).map_or(Ok(()), Err)?;
             search::call(&mut numbers).map_or(Ok(()), Err)?;
-            updates += updates::sequence(&mut numbers)?;
+            updates[0] += updates::sequence(&mut numbers)?;
+            updates[1] += logs::internal_sequence(&mut numbers)?;
+            updates[2] += logs::public_sequence(&mut numbers)?;
         }
         boxes += 2 * ROUND;
         searches += ROUND;
     }
     let seconds = began.elapsed().as_secs();
     println!(
-        "seed {seed}: no difference in {boxes} matrices of boxes, {searches} searches and {updates} updates of the extended \
-         accumulator ({seconds} s)"
+        "seed {seed}: no difference in {boxes} matrices of boxes, {searches} searches, {} updates of the extended \
+         accumulator, {} of module 3's and {} of module 4's ({seconds} s)",
+        updates[0], updates[1], updates[2],
     );
     Ok(())
 }

@@ -8,16 +8,16 @@ use norfair::internal::scipy::optimize::linear_sum_assignment;
 const IDS: u64 = 6;
 const PLACES: usize = 256;
 
-struct Frame {
-    gt_ids: Vec<i32>,
-    gt_boxes: Vec<f64>,
-    pred_ids: Vec<i32>,
-    pred_boxes: Vec<f64>,
-    threshold: f64,
+pub struct Frame {
+    pub gt_ids: Vec<i32>,
+    pub gt_boxes: Vec<f64>,
+    pub pred_ids: Vec<i32>,
+    pub pred_boxes: Vec<f64>,
+    pub threshold: f64,
 }
 
-fn frame(numbers: &mut Numbers) -> Frame {
-    let mut side = |numbers: &mut Numbers| {
+pub fn frame(numbers: &mut Numbers) -> Frame {
+    let side = |numbers: &mut Numbers| {
         let count = if numbers.below(10) == 0 { 0 } else { 1 + numbers.below(4) };
         let ids: Vec<i32> = (0..count).map(|_| numbers.below(IDS) as i32 - 2).collect();
         // a small field of whole numbers: much overlap, and many ties
