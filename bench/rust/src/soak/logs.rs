@@ -1,9 +1,10 @@
 //! The accumulators of modules 3 and 4: sequences of frames, both sides from a new state, the logs held to each other after
 //! every frame.
 
-use crate::{numbers::{same, Numbers}, port, updates::{frame, Frame}};
+use crate::{boxes, numbers::{same, Numbers}, port, updates::{frame, Frame}};
 use nalgebra::DMatrix;
 use norfair::internal::motmetrics::accumulator as internal;
+use norfair::internal::motmetrics::iou::compute_iou_distance_matrix;
 use norfair::metrics::accumulator as public;
 
 /// Events that a log holds.
@@ -71,14 +72,12 @@ fn distances(numbers: &mut Numbers, count: usize) -> Vec<f64> {
     (0..count).map(|_| one()).collect()
 }
 
-/// Module 3: up to eight frames; how many were asked, or what differs.
-pub fn internal_sequence(numbers: &mut Numbers) -> Result<u64, String> {
+/// Module 3, a frame number and distances beside each frame; how many were asked, or what differs.
+pub fn internal_play(frames: impl Iterator<Item = (i32, Frame, Vec<f64>)>) -> Result<u64, String> {
     let mut rust = internal::MOTAccumulator::new();
     let (mut log, mut table, mut used) = (Log::new(), [0; 768], [0; 2]);
-    let frames = 1 + numbers.below(8);
-    for _ in 0..frames {
-        let Frame { gt_ids, pred_ids, .. } = frame(numbers);
-        let (id, run) = (numbers.below(9) as i32 - 4, distances(numbers, gt_ids.len() * pred_ids.len()));
+    let mut done = 0;
+    for (id, Frame { gt_ids, pred_ids, .. }, run) in frames {
         let before = rust.get_events().len();
         rust.update(id, &gt_ids, &pred_ids, &DMatrix::from_row_slice(gt_ids.len(), pred_ids.len(), &run));
         let number = port::motmetrics_update(
@@ -88,18 +87,17 @@ pub fn internal_sequence(numbers: &mut Numbers) -> Result<u64, String> {
         if number != 0 || used[0] != events.len() || !log.holds(before, events[before..].iter().map(internal_row)) {
             return Err(format!("frame {id} of {gt_ids:?} and {pred_ids:?}, {run:?}: {rust:?}, the port {number} {used:?}"));
         }
+        done += 1;
     }
-    Ok(frames)
+    Ok(done)
 }
 
 /// Module 4, the same way.
-pub fn public_sequence(numbers: &mut Numbers) -> Result<u64, String> {
+pub fn public_play(frames: impl Iterator<Item = (i32, Frame)>) -> Result<u64, String> {
     let mut rust = public::MOTAccumulator::new();
     let (mut log, mut table, mut hypotheses, mut used) = (Log::new(), [0; 768], [0; EVENTS], [0; 3]);
-    let frames = 1 + numbers.below(8);
-    for _ in 0..frames {
-        let Frame { gt_ids, gt_boxes, pred_ids, pred_boxes, threshold } = frame(numbers);
-        let id = numbers.below(9) as i32 - 4;
+    let mut done = 0;
+    for (id, Frame { gt_ids, gt_boxes, pred_ids, pred_boxes, threshold }) in frames {
         let dense = |ids: &[i32], run: &[f64]| DMatrix::from_row_slice(ids.len(), 4, run);
         let before = rust.events().len();
         rust.update(id, &gt_ids, &pred_ids, &dense(&gt_ids, &gt_boxes), &dense(&pred_ids, &pred_boxes), threshold);
@@ -115,6 +113,33 @@ pub fn public_sequence(numbers: &mut Numbers) -> Result<u64, String> {
                  {number} {used:?}"
             ));
         }
+        done += 1;
     }
-    Ok(frames)
+    Ok(done)
+}
+
+fn number(numbers: &mut Numbers) -> i32 {
+    numbers.below(9) as i32 - 4
+}
+
+/// Up to eight frames of module 3.
+pub fn internal_sequence(numbers: &mut Numbers) -> Result<u64, String> {
+    let frames = 1 + numbers.below(8);
+    internal_play((0..frames).map(|_| {
+        let next = frame(numbers);
+        let run = distances(numbers, next.gt_ids.len() * next.pred_ids.len());
+        (number(numbers), next, run)
+    }))
+}
+
+/// Up to eight frames of module 4.
+pub fn public_sequence(numbers: &mut Numbers) -> Result<u64, String> {
+    let frames = 1 + numbers.below(8);
+    public_play((0..frames).map(|_| (number(numbers), frame(numbers))))
+}
+
+/// Module 3's distances of a frame of boxes, infinite beyond the threshold, as callers make them.
+pub fn near(frame: &Frame) -> Vec<f64> {
+    let all = compute_iou_distance_matrix(&boxes::rows(&frame.gt_boxes), &boxes::rows(&frame.pred_boxes)).concat();
+    all.into_iter().map(|d| if d <= frame.threshold { d } else { f64::INFINITY }).collect()
 }

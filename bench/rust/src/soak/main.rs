@@ -40,10 +40,19 @@ fn soak(minutes: f64, seed: u64) -> Result<(), String> {
     Ok(())
 }
 
+fn exhaustive() -> Result<(), String> {
+    println!("exhaustive: no difference in {} searches", search::exhaustive()?);
+    let extended = updates::exhaustive(|frames| updates::play(frames.iter().cloned()))?;
+    let internal = updates::exhaustive(|frames| logs::internal_play(frames.iter().map(|f| (1, f.clone(), logs::near(f)))))?;
+    let public = updates::exhaustive(|frames| logs::public_play(frames.iter().map(|f| (1, f.clone()))))?;
+    println!("exhaustive: no difference in {extended} updates of the extended accumulator, {internal} of module 3's, {public} of module 4's");
+    Ok(())
+}
+
 fn main() {
     let words: Vec<String> = std::env::args().skip(1).collect();
     let outcome = match words.iter().map(String::as_str).collect::<Vec<_>>()[..] {
-        ["exhaustive"] => search::exhaustive().map(|done| println!("exhaustive: no difference in {done} searches")),
+        ["exhaustive"] => exhaustive(),
         [minutes, seed] => match (minutes.parse(), seed.parse()) {
             (Ok(minutes), Ok(seed)) => soak(minutes, seed),
             _ => Err("soak: minutes and a seed are numbers".into()),

@@ -8,6 +8,7 @@ use norfair::internal::scipy::optimize::linear_sum_assignment;
 const IDS: u64 = 6;
 const PLACES: usize = 256;
 
+#[derive(Clone)]
 pub struct Frame {
     pub gt_ids: Vec<i32>,
     pub gt_boxes: Vec<f64>,
@@ -57,13 +58,12 @@ fn agree(rust: &ExtendedMOTAccumulator, run: &[i32], counters: &[i32], distance:
     totals == counters && same(rust.total_distance, distance) && (0..counters[0] as usize).all(slot)
 }
 
-/// A sequence of up to eight frames; how many were asked, or what differs.
-pub fn sequence(numbers: &mut Numbers) -> Result<u64, String> {
+/// Frames in a row from a new state; how many they are, or what differs.
+pub fn play(frames: impl Iterator<Item = Frame>) -> Result<u64, String> {
     let mut rust = ExtendedMOTAccumulator::new("");
     let (mut run, mut counters, mut distance) = ([0; 9 * PLACES], [0; 7], [0.0]);
-    let frames = 1 + numbers.below(8);
-    for _ in 0..frames {
-        let Frame { gt_ids, gt_boxes, pred_ids, pred_boxes, threshold } = frame(numbers);
+    let mut done = 0;
+    for Frame { gt_ids, gt_boxes, pred_ids, pred_boxes, threshold } in frames {
         rust.update(&boxes::rows(&gt_boxes), &gt_ids, &boxes::rows(&pred_boxes), &pred_ids, threshold, solved);
         let number = port::extended_update(
             &mut run, &mut counters, &mut distance, &gt_ids, &gt_boxes, &pred_ids, &pred_boxes, threshold,
@@ -74,6 +74,36 @@ pub fn sequence(numbers: &mut Numbers) -> Result<u64, String> {
                  {number} {counters:?} {distance:?}"
             ));
         }
+        done += 1;
     }
-    Ok(frames)
+    Ok(done)
+}
+
+/// Up to eight frames.
+pub fn sequence(numbers: &mut Numbers) -> Result<u64, String> {
+    let frames = 1 + numbers.below(8);
+    play((0..frames).map(|_| frame(numbers)))
+}
+
+/// The frames of a tiny scene: on each side nobody, one of two ids, both, or one of them twice, in one place or two.
+fn tiny() -> Vec<Frame> {
+    let side = |ids: &[i32]| {
+        let boxes: Vec<f64> = (0..ids.len()).flat_map(|k| [2.0 * k as f64, 0.0, 2.0 * k as f64 + 3.0, 3.0]).collect();
+        (ids.to_vec(), boxes)
+    };
+    let sides: Vec<_> = [&[][..], &[1], &[2], &[1, 2], &[2, 1], &[1, 1]].map(side).into();
+    let pairs = sides.iter().flat_map(|truth| sides.iter().map(move |predicted| (truth.clone(), predicted.clone())));
+    pairs
+        .map(|((gt_ids, gt_boxes), (pred_ids, pred_boxes))| Frame { gt_ids, gt_boxes, pred_ids, pred_boxes, threshold: 0.5 })
+        .collect()
+}
+
+/// All sequences of four such frames, each held after every frame, handed to a player; how many updates that is.
+pub fn exhaustive(play: fn(&[Frame]) -> Result<u64, String>) -> Result<u64, String> {
+    let frames = tiny();
+    let kinds = frames.len();
+    (0..kinds.pow(4)).try_fold(0, |done, code| {
+        let sequence: Vec<Frame> = (0..4).map(|k| frames[code / kinds.pow(k) % kinds].clone()).collect();
+        Ok(done + play(&sequence)?)
+    })
 }
