@@ -1,15 +1,15 @@
 use native.Mathlib.Nat.{le-antisymm}
 use borrow.Author.Needs.{needs}
-use Rattle.matrix.specs.Matrix.{anyBad, boxAt}
-use Rattle.matrix.proofs.Laws.{any-true}
+use Rattle.matrix_numbers.specs.Numbers.{anyBad, boxAt}
+use Rattle.matrix_numbers.proofs.Laws.{any-true}
 use Prim.Native.Nat.{_≤_, _-_}
 use native.Mathlib.Omega.{arith}
 use native.Mathlib.Numerals.{add-one}
 use mathlib.Core.Path.{_≡_, refl, sym, ap, _∙_}
 use mathlib.Core.Bool.{true, false}
 use Rattle.iou.specs.Boxes.{badBox}
-use Rattle.matrix.proofs.any_bad.Statement.{statement}
-use Rattle.matrix.proofs.any_bad.Tie as tie
+use Rattle.matrix_numbers.proofs.any_bad.Statement.{statement}
+use Rattle.matrix_numbers.proofs.any_bad.Tie as tie
 
 abbrev Inv-loop : tie.InvT-loop
 Inv-loop run n i₀ i = (i ≤ n) × (anyBad run i ≡ false)

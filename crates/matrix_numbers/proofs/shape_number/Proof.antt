@@ -1,7 +1,7 @@
 use borrow.Author.Tests.{lt-ltb, le-ltb, eq-eqb, ne-eqb}
-use Rattle.matrix.specs.Matrix.{shapeNo}
-use Rattle.matrix.proofs.shape_number.Statement.{statement}
-use Rattle.matrix.proofs.shape_number.Tie as tie
+use Rattle.matrix_numbers.specs.Numbers.{shapeNo}
+use Rattle.matrix_numbers.proofs.shape_number.Statement.{statement}
+use Rattle.matrix_numbers.proofs.shape_number.Tie as tie
 
 returns : tie.Need-returns
 unfolding shapeNo

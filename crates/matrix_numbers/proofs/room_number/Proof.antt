@@ -1,9 +1,9 @@
-use Rattle.matrix.specs.Matrix.{roomNo}
+use Rattle.matrix_numbers.specs.Numbers.{roomNo}
 use borrow.Author.Tests.{lt-ltb, le-ltb}
 use native.Mathlib.Nat.{mul-le-mul}
 use native.Mathlib.Omega.{arith}
-use Rattle.matrix.proofs.room_number.Statement.{statement}
-use Rattle.matrix.proofs.room_number.Tie as tie
+use Rattle.matrix_numbers.proofs.room_number.Statement.{statement}
+use Rattle.matrix_numbers.proofs.room_number.Tie as tie
 
 mul-if1 : tie.Need-mul-if1
 mul-if1 c = omega (arith, mul-le-mul (c .pre .0) (c .pre .1))
