@@ -15,7 +15,7 @@ use Rattle.counts.proofs.Tests.{both}
 use Rattle.ids.specs.Ids.{seekOf, isAbsent, distinctOf}
 use Rattle.ids.proofs.Lookups.{absent-reads, absent-is, absent-yes}
 
-not-same : (a b : ℤ) → (a ≡ b → ⊥) → (t : Bool) → sameId a b ≡ t → sameId a b ≡ false
+pub not-same : (a b : ℤ) → (a ≡ b → ⊥) → (t : Bool) → sameId a b ≡ t → sameId a b ≡ false
 not-same a b h true e = absurd (h (same-eq a b e))
 not-same a b h false e = e
 
