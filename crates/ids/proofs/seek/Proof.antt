@@ -1,4 +1,4 @@
--- `slots::seek` meets its contract. The lookup from place i on is the whole one's. Assumes nothing.
+-- `ids::seek` meets its contract. The lookup from place i on is the whole one's. Assumes nothing.
 use borrow.Author.Needs.{needs}
 use mathlib.Core.Path.{_≡_, refl, sym, _∙_}
 use Prim.Native.Nat.{_≤_, _-_}
@@ -10,10 +10,10 @@ use mir.Val.{toZ, ofZ}
 use mir.Facts.{toZ-ofZ}
 use Rattle.counts.specs.Counts.{sameId}
 use Rattle.counts.proofs.Ids.{told}
-use Rattle.slots.specs.Slots.{seekFrom, seekOf}
-use Rattle.slots.proofs.Lookups.{here, next}
-use Rattle.slots.proofs.seek.Statement.{statement}
-use Rattle.slots.proofs.seek.Tie as tie
+use Rattle.ids.specs.Ids.{seekFrom, seekOf}
+use Rattle.ids.proofs.Lookups.{here, next}
+use Rattle.ids.proofs.seek.Statement.{statement}
+use Rattle.ids.proofs.seek.Tie as tie
 
 abbrev Inv-loop : tie.InvT-loop
 Inv-loop ids id n i₀ i = (i ≤ length ids) × (seekFrom i (drop i ids) (toZ w32 id) ≡ seekOf ids (toZ w32 id))

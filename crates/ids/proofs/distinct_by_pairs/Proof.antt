@@ -1,4 +1,4 @@
--- `slots::distinct` meets its contract. The ids from place i on decide what all of them do. Assumes nothing.
+-- `ids::distinct_by_pairs` meets its contract. The ids from place i on decide what all of them do. Assumes nothing.
 use borrow.Author.Needs.{needs}
 use mathlib.Core.Path.{_≡_, refl, sym, ap, _∙_}
 use Prim.Native.Nat.{_≤_, _-_, _+_}
@@ -7,10 +7,10 @@ use lib.IntN.{pos}
 use lib.ListN.{length, drop, getD, length-drop, drop-of-length-le}
 use lib.Seq.{take-all}
 use Rattle.counts.proofs.Ids.{told}
-use Rattle.slots.specs.Slots.{distinctOf, seekOf, isAbsent}
-use Rattle.slots.proofs.Tables.{twice, once}
-use Rattle.slots.proofs.distinct.Statement.{statement}
-use Rattle.slots.proofs.distinct.Tie as tie
+use Rattle.ids.specs.Ids.{distinctOf, seekOf, isAbsent}
+use Rattle.ids.proofs.NoneTwice.{twice, once}
+use Rattle.ids.proofs.distinct_by_pairs.Statement.{statement}
+use Rattle.ids.proofs.distinct_by_pairs.Tie as tie
 
 abbrev Inv-loop : tie.InvT-loop
 Inv-loop ids n i₀ i = (i ≤ length ids) × (distinctOf (drop i ids) ≡ distinctOf ids)
@@ -85,8 +85,8 @@ returns-2 c =
     let b = c .before in
     simp (drop-of-length-le (b .before .args .ids .now) (c .loop-test .left)) at (b .loop .inv .1)
 
-pub distinct-spec : {M : Type 1} → statement M
-distinct-spec =
+pub distinct-by-pairs-spec : {M : Type 1} → statement M
+distinct-by-pairs-spec =
     tie.close
     (tie.spec
     Inv-loop
