@@ -1,12 +1,12 @@
--- `truths_in_place::clear` meets its contract. Assumes nothing.
+-- `id_runs::clear` meets its contract. Assumes nothing.
 use mathlib.Core.Path.{_≡_}
 use Prim.Native.Nat.{_≤_, _-_}
 use native.Mathlib.Omega.{arith}
 use lib.IntN.{pos}
 use Rattle.partners.proofs.Fresh.{Filled, none-filled, one-filled, all-filled}
 use borrow.Author.Needs.{needs}
-use Rattle.truths_in_place.proofs.clear.Statement.{statement}
-use Rattle.truths_in_place.proofs.clear.Tie as tie
+use Rattle.id_runs.proofs.clear.Statement.{statement}
+use Rattle.id_runs.proofs.clear.Tie as tie
 
 abbrev Inv-loop : tie.InvT-loop
 Inv-loop run₀ from to k₀ run k = (from ≤ k) × (k ≤ to) × Filled (pos 0) run₀ from k run

@@ -1,4 +1,4 @@
--- `truths_in_place::matched_ids` meets its contract. Assumes nothing.
+-- `id_runs::matched_ids` meets its contract. Assumes nothing.
 use mathlib.Core.Path.{_≡_, refl, ap, _∙_}
 use Prim.Native.Nat.{ℕ, _≤_, _<_, _-_, _/_}
 use native.Mathlib.Omega.{arith}
@@ -7,11 +7,11 @@ use lib.ListN.{length, take, getD, length-set}
 use lib.Seq.{take-length}
 use Rattle.counts.proofs.Ids.{back}
 use Rattle.partners.proofs.Turns.{place-in}
-use Rattle.truths_in_place.specs.Table.{rowIdsOf}
-use Rattle.truths_in_place.proofs.Gathering as law
+use Rattle.id_runs.specs.Runs.{rowIdsOf}
+use Rattle.id_runs.proofs.Gathering as law
 use borrow.Author.Needs.{needs}
-use Rattle.truths_in_place.proofs.matched_ids.Statement.{statement}
-use Rattle.truths_in_place.proofs.matched_ids.Tie as tie
+use Rattle.id_runs.proofs.matched_ids.Statement.{statement}
+use Rattle.id_runs.proofs.matched_ids.Tie as tie
 
 abbrev Inv-loop : tie.InvT-loop
 Inv-loop pairs object-ids w ids₀ i₀ ids i = (i ≤ length pairs) × (length ids ≡ 64) × (take i ids ≡ rowIdsOf object-ids w (take i pairs))

@@ -15,7 +15,7 @@ use Rattle.ids.specs.declared.Lookup.{Lookup}
 use Rattle.ids.specs.declared.Lookup.the-variants.{At, Absent}
 use Rattle.ids.specs.Ids.{seekFrom, seekOf, isAbsent}
 use Rattle.seen.specs.Seen.{seenAt, seenOne, seenAll}
-use Rattle.truths_in_place.specs.Table.{fitIn}
+use Rattle.id_runs.specs.Runs.{fitIn}
 
 -- ---- absent from two lists, one behind the other
 shift-step : (b : Bool) (i j : ℕ) (r s : Lookup) → isAbsent r ≡ isAbsent s → isAbsent (cond b (At i) r) ≡ isAbsent (cond b (At j) s)

@@ -1,12 +1,12 @@
--- `truths_in_place::is_new` meets its contract. Assumes nothing.
+-- `id_runs::is_new` meets its contract. Assumes nothing.
 use mathlib.Core.Path.{_≡_, sym, ap, _∙_}
 use mathlib.Core.Bool.{true, false}
 use mir.Facts.{toZ-ofZ}
 use Rattle.ids.specs.Ids.{seekOf, isAbsent}
-use Rattle.truths_in_place.proofs.Counting.{by-two, not-first}
+use Rattle.id_runs.proofs.Counting.{by-two, not-first}
 use borrow.Author.Needs.{needs}
-use Rattle.truths_in_place.proofs.is_new.Statement.{statement}
-use Rattle.truths_in_place.proofs.is_new.Tie as tie
+use Rattle.id_runs.proofs.is_new.Statement.{statement}
+use Rattle.id_runs.proofs.is_new.Tie as tie
 
 -- absent from the known ids
 absent : (c : tie.After-enum-told) → let a = c .before .before .before .args in isAbsent (seekOf (a .known .now) (a .id)) ≡ true

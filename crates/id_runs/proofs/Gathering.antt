@@ -6,7 +6,7 @@ use native.Mathlib.Numerals.{add-one}
 use lib.IntN.{ℤ, pos}
 use lib.ListN.{length, take, set, getD}
 use lib.Seq.{take-suc, take-suc-set}
-use Rattle.truths_in_place.specs.Table.{rowIdsOf}
+use Rattle.id_runs.specs.Runs.{rowIdsOf}
 
 pub one-more : (truths : List ℤ) (w : ℕ) (ks : List ℕ) (ids : List ℤ) (i : ℕ) (id : ℤ) → i < length ks → i < length ids → id ≡ getD truths (getD ks i 0 / w) (pos 0)
     → take i ids ≡ rowIdsOf truths w (take i ks) → take (i + 1) (set ids i id) ≡ rowIdsOf truths w (take (i + 1) ks)

@@ -1,9 +1,9 @@
--- `truths_in_place::put` meets its contract. Assumes nothing.
+-- `id_runs::put` meets its contract. Assumes nothing.
 use native.Mathlib.Omega.{arith}
 use lib.ListN.{length-set}
 use borrow.Author.Needs.{needs}
-use Rattle.truths_in_place.proofs.put.Statement.{statement}
-use Rattle.truths_in_place.proofs.put.Tie as tie
+use Rattle.id_runs.proofs.put.Statement.{statement}
+use Rattle.id_runs.proofs.put.Tie as tie
 
 mul-id : tie.Need-mul-id
 mul-id c = search needs

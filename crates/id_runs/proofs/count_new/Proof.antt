@@ -1,4 +1,4 @@
--- `truths_in_place::count_new` meets its contract. The new ids so far stand behind the known ones, and the rest are to come. Assumes nothing.
+-- `id_runs::count_new` meets its contract. The new ids so far stand behind the known ones, and the rest are to come. Assumes nothing.
 use mathlib.Core.Path.{refl, sym, _∙_}
 use mathlib.Core.Logic.{⊎-elim}
 use Prim.Native.Nat.{_≤_, _-_}
@@ -6,10 +6,10 @@ use native.Mathlib.Omega.{arith}
 use lib.ListN.{length}
 use lib.Seq.{length-take-le}
 use Rattle.counts.proofs.Ids.{back}
-use Rattle.truths_in_place.proofs.Counting as law
+use Rattle.id_runs.proofs.Counting as law
 use borrow.Author.Needs.{needs}
-use Rattle.truths_in_place.proofs.count_new.Statement.{statement}
-use Rattle.truths_in_place.proofs.count_new.Tie as tie
+use Rattle.id_runs.proofs.count_new.Statement.{statement}
+use Rattle.id_runs.proofs.count_new.Tie as tie
 
 abbrev Inv-loop : tie.InvT-loop
 Inv-loop known ids fresh₀ count₀ i₀ fresh count i = (i ≤ length ids) × law.Counting known ids fresh count i

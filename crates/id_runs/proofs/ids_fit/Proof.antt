@@ -1,9 +1,9 @@
--- `truths_in_place::ids_fit` meets its contract. Assumes nothing.
+-- `id_runs::ids_fit` meets its contract. Assumes nothing.
 use native.Mathlib.Omega.{arith}
-use Rattle.truths_in_place.proofs.Counting.{all-short, fits, counted-fit}
+use Rattle.id_runs.proofs.Counting.{all-short, fits, counted-fit}
 use borrow.Author.Needs.{needs}
-use Rattle.truths_in_place.proofs.ids_fit.Statement.{statement}
-use Rattle.truths_in_place.proofs.ids_fit.Tie as tie
+use Rattle.id_runs.proofs.ids_fit.Statement.{statement}
+use Rattle.id_runs.proofs.ids_fit.Tie as tie
 
 add-if1 : tie.Need-add-if1
 add-if1 c = search needs
