@@ -1,4 +1,4 @@
--- `rows::book_rows` meets its contract. The rows booked so far are the definition's, and the array of ids is that of the slots. Assumes nothing.
+-- `trial::book_rows` meets its contract. The rows booked so far are the definition's, and the array of ids is that of the slots. Assumes nothing.
 use mathlib.Core.Path.{_≡_, refl, sym, ap, _∙_}
 use Prim.Native.Nat.{_<_, _≤_, _-_, _+_}
 use native.Mathlib.Omega.{arith}
@@ -12,14 +12,14 @@ use Rattle.counts.proofs.Ids.{back}
 use Rattle.ids.specs.declared.Lookup.{Lookup}
 use Rattle.ids.specs.Ids.{seekOf}
 use Rattle.slots.specs.Slots.{idsFilled, idOf, noSlot}
 use Rattle.rows.specs.declared.Row.{Row}
 use Rattle.rows.specs.declared.Spot.{Spot}
 use Rattle.rows.specs.declared.Step.{Step}
 use Rattle.slots.proofs.Tables.{filled-long, ids-taken}
 use Rattle.rows.specs.Rows.{rowAt, rowSpot, rowStep, spotOf, stepOf, trialOf, trialAfter}
 use Rattle.rows.proofs.Booking.{few-more, row-in, ids-follow, one-more}
-use Rattle.rows.proofs.book_rows.Statement.{statement}
-use Rattle.rows.proofs.book_rows.Tie as tie
+use Rattle.trial.proofs.book_rows.Statement.{statement}
+use Rattle.trial.proofs.book_rows.Tie as tie
 
 abbrev Inv-loop : tie.InvT-loop
 Inv-loop gt-ids pred-ids pair-rows pair-cols left-rows pairs lefts frame t₀ ids₀ full₀ over₀ switches₀ k₀ n t ids full over switches k =
