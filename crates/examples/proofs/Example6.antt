@@ -16,8 +16,7 @@ use Rattle.paths.specs.Path.{bfsOf, Path, last, next, NoPath}
 use Rattle.start.specs.Steps.{pairsOf, noPairs, pairRows, squareOf, startOf}
 use Rattle.search.specs.Steps.{Reached, Corr, leastRows, leastOver, usefulOf, shiftedOf, shiftOf}
 use Rattle.search.specs.Run.{Run, stop, path, correct}
-use Rattle.search.proofs.ReachCode.{clear}
-use Rattle.search.proofs.ReachOf.{mark-row, mark-col, part-none, free-missing, zero-missing, pair-missing}
+use Rattle.search.proofs.ReachOf.{clear, mark-row, mark-col, part-none, free-missing, zero-missing, pair-missing}
 use Rattle.optimize.specs.Answer.{assignmentNo, Answered, found, passesOf, Solved, resultOf}
 use Rattle.solver.specs.Solution.{solutionOf, answer-is}
 use Rattle.examples.specs.Shown.{whole, shown, pair, two}

@@ -16,8 +16,7 @@ use Rattle.paths.specs.Path.{bfsOf, NoPath}
 use Rattle.start.specs.Steps.{startOf}
 use Rattle.search.specs.Steps.{Reached, Stuck, leastRows, usefulOf}
 use Rattle.search.specs.Run.{Run, stop}
-use Rattle.search.proofs.ReachCode.{clear}
-use Rattle.search.proofs.ReachOf.{mark-row, part-none, free-missing, zero-missing, pair-missing}
+use Rattle.search.proofs.ReachOf.{clear, mark-row, part-none, free-missing, zero-missing, pair-missing}
 use Rattle.optimize.specs.Answer.{assignmentNo, Answered, found, passesOf, resultOf}
 use Rattle.solver.specs.Solution.{solutionOf, answer-is}
 use Rattle.examples.specs.Shown.{shown}

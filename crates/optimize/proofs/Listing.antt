@@ -11,7 +11,7 @@ use lib.Seq.{getD-set-same, getD-set-other}
 use lib.Dec.{ltb, eqb}
 use lib.Ieee.{Float, le}
 use borrow.Author.Tests.{ltb-true, eq-eqb, ne-eqb}
-use Rattle.square.specs.Index.{any, filled, on}
+use Rattle.square.specs.Index.{any, filled, on, Picked}
 use Rattle.square.proofs.Truth.{and-left, and-not-right, not-of-false}
 use Rattle.square.proofs.Index.{last-or-before, eq-or-not, any-more, off}
 use Rattle.square.proofs.Count.{count-zero, count-le, count-same, count-all}
@@ -20,7 +20,7 @@ use Rattle.start.specs.Steps.{entry}
 use Rattle.optimize.specs.declared.Assignment.{Assignment}
 use Rattle.optimize.specs.declared.AssignmentResult.{AssignmentResult}
 use Rattle.optimize.specs.Answer.{passesOf, keeps, taken, pairOf, noPair, resultOf, rowsAlone}
-use Rattle.optimize.specs.Inner.{Listed, Unmarked}
+use Rattle.optimize.specs.Inner.{Listed}
 
 module _ (m : List Float) (w : ℕ) (limit : Float) (rows : List ℕ) where
   -- a pair that passes is a real one
@@ -97,33 +97,6 @@ pub listed-end : {m : List Float} {w : ℕ} {limit : Float} {rows : List ℕ} {k
     → k ≡ h → Listed m w limit rows k pairs used R C → Listed m w limit rows h pairs used R C
 listed-end {m} {w} {limit} {rows} {k} {h} {pairs} {used} {R} {C} e v = subst (λ (x : ℕ). Listed m w limit rows x pairs used R C) e v
 
--- ---- what is not marked
-module _ (marks : List Bool) where
-  abbrev left : ℕ → Bool
-  left i = not (on marks i)
-
-  pub unmarked-none : Unmarked marks 0 (replicate 64 0) 0
-  unmarked-none = record { places-are = ap (filled 0) (sym (gather-none left (λ i. i))); used-is = sym (count-zero left) }
-
-  module _ (k : ℕ) (places : List ℕ) (used : ℕ) (v : Unmarked marks k places used) where
-    pub unmarked-few : used ≤ k
-    unmarked-few = omega (arith, v .used-is, count-le k left)
-
-    pub unmarked-yes : k < 64 → not (on marks k) ≡ true → Unmarked marks (k + 1) (set places used k) (used + 1)
-    unmarked-yes l e = record {
-      places-are = fill-yes 0 left (λ i. i) k used places (v .places-are) (v .used-is) (omega (arith, unmarked-few)) e;
-      used-is = count-next left k used (v .used-is) e;
-    }
-
-    pub unmarked-no : not (on marks k) ≡ false → Unmarked marks (k + 1) places used
-    unmarked-no e = record { places-are = fill-no 0 left (λ i. i) k used places (v .places-are) (v .used-is) e; used-is = count-stay left k used (v .used-is) e }
-
-pub unmarked-at : {marks : List Bool} {k : ℕ} {places places' : List ℕ} {used used' : ℕ} → places' ≡ places → used' ≡ used → Unmarked marks k places used → Unmarked marks k places' used'
-unmarked-at p q v = record { places-are = p ∙ v .places-are; used-is = q ∙ v .used-is }
-
-pub unmarked-end : {marks : List Bool} {k n : ℕ} {places : List ℕ} {used : ℕ} → k ≡ n → Unmarked marks k places used → Unmarked marks n places used
-unmarked-end {marks} {k} {n} {places} {used} e v = subst (λ (x : ℕ). Unmarked marks x places used) e v
-
 -- ---- the whole result, from the pairs and what the marks leave
 module _ (m : List Float) (w : ℕ) (limit : Float) (rows : List ℕ) (h : ℕ) (pairs : List Assignment) (used : ℕ) (R C : List Bool) (v : Listed m w limit rows h pairs used R C) where
   rows-same : (i : ℕ) → i < h → not (on R i) ≡ not (keeps m w limit rows i)
@@ -132,7 +105,7 @@ module _ (m : List Float) (w : ℕ) (limit : Float) (rows : List ℕ) (h : ℕ) 
   cols-same : (j : ℕ) → j < w → not (on C j) ≡ not (taken m w limit rows h j)
   cols-same j l = ap not (v .col-marks j)
 
-  pub result-is : (corrections paths : ℕ) (rs cs : List ℕ) (nr nc : ℕ) → Unmarked R h rs nr → Unmarked C w cs nc
+  pub result-is : (corrections paths : ℕ) (rs cs : List ℕ) (nr nc : ℕ) → Picked false R h rs nr → Picked false C w cs nc
       → _≡_ {A = AssignmentResult} (record { number = 0; assignments = pairs; «num_assignments» = used; «unmatched_rows» = rs; «num_unmatched_rows» = nr; «unmatched_cols» = cs; «num_unmatched_cols» = nc; corrections = corrections; paths = paths })
       (resultOf m h w limit rows corrections paths)
   unfolding resultOf
@@ -149,7 +122,7 @@ module _ (m : List Float) (w : ℕ) (limit : Float) (rows : List ℕ) (h : ℕ) 
   }
 
 -- with no mark, every row is left
-pub alone-is : (h : ℕ) (places : List ℕ) (used : ℕ) → Unmarked (replicate 64 false) h places used
+pub alone-is : (h : ℕ) (places : List ℕ) (used : ℕ) → Picked false (replicate 64 false) h places used
     → _≡_ {A = AssignmentResult} (record { number = 0; assignments = replicate 64 noPair; «num_assignments» = 0; «unmatched_rows» = places; «num_unmatched_rows» = used; «unmatched_cols» = replicate 64 0; «num_unmatched_cols» = 0; corrections = 0; paths = 0 })
     (rowsAlone h)
 unfolding rowsAlone

@@ -1,7 +1,7 @@
 -- What the inner functions say to each other: no part of document 01. Definitions only.
 use Prim.Native.Nat.{ℕ, _<_, _≤_}
 use mathlib.Core.Path.{_≡_}
-use mathlib.Core.Bool.{Bool, false, not}
+use mathlib.Core.Bool.{Bool, false}
 use mathlib.Core.List.{List}
 use lib.ListN.{length}
 use lib.Ieee.{Float}
@@ -18,8 +18,3 @@ pub record Listed (m : List Float) (w : ℕ) (limit : Float) (rows : List ℕ) (
   pub row-marks : (i : ℕ) → i < k → on R i ≡ keeps m w limit rows i
   pub row-later : (i : ℕ) → k ≤ i → on R i ≡ false
   pub col-marks : (j : ℕ) → on C j ≡ taken m w limit rows k j
-
--- the numbers below k that are not marked, rising, and how many
-pub record Unmarked (marks : List Bool) (k : ℕ) (places : List ℕ) (used : ℕ) : Type 0 where
-  pub places-are : places ≡ filled 0 (gather k (λ i. not (on marks i)) (λ i. i))
-  pub used-is : used ≡ count k (λ i. not (on marks i))

@@ -5,7 +5,7 @@ ghost use mathlib.Core.Bool.{false};
 ghost use Prim.Native.Nat.{_+_, _*_, _≤_};
 ghost use lib.ListN.{length, replicate};
 ghost use Rattle.optimize.specs.Answer.{assignmentNo, Solved, passesOf, resultOf, emptyOf, rowsAlone, Answered};
-ghost use Rattle.optimize.specs.Inner.{Listed, Unmarked};
+ghost use Rattle.optimize.specs.Inner.{Listed};
 
 pub struct Assignment {
     pub row_idx: usize,
@@ -124,29 +124,6 @@ fn keep_pairs(
     Kept { assignments, used }
 }
 
-pub struct Indices {
-    pub places: [usize; 64],
-    pub used: usize,
-}
-
-// The numbers below n that are not marked, rising.
-fn unmatched(marks: &[bool; 64], n: usize) -> Indices
-    requires { ⌜ n ≤ 64 ⌝ }
-    ensures { λ r. ⌜ Unmarked (now (marks .entry)) n (r .places) (r .used) ⌝ }
-{
-    let mut places = [0usize; 64];
-    let mut used = 0usize;
-    let mut i = 0usize;
-    while i < n {
-        if !marks[i] {
-            places[used] = i;
-            used += 1;
-        }
-        i += 1;
-    }
-    Indices { places, used }
-}
-
 // What of a matching passes max_cost, and what is left.
 pub fn filtered(
     cost: &[f64],
@@ -170,8 +147,8 @@ pub fn filtered(
         &mut matched_rows,
         &mut matched_cols,
     );
-    let left_rows = unmatched(&matched_rows, rows);
-    let left_cols = unmatched(&matched_cols, cols);
+    let left_rows = square::pick(&matched_rows, rows, false);
+    let left_cols = square::pick(&matched_cols, cols, false);
     let assignments = kept.assignments;
     let unmatched_rows = left_rows.places;
     let unmatched_cols = left_cols.places;
@@ -214,7 +191,7 @@ fn rows_alone(rows: usize) -> AssignmentResult
     ensures { λ r. ⌜ r ≡ rowsAlone rows ⌝ }
 {
     let marks = [false; 64];
-    let left = unmatched(&marks, rows);
+    let left = square::pick(&marks, rows, false);
     let unmatched_rows = left.places;
     AssignmentResult {
         number: 0,

@@ -7,6 +7,7 @@ pub mod ReachOf
 pub mod Leads
 pub mod Sought
 pub mod LoopCode
+pub mod HotRows
 pub mod Unique
 pub mod Bounds
 pub mod Exists

@@ -10,7 +10,7 @@ use Rattle.paths.specs.State.{Ok, State, state, paired}
 use Rattle.paths.specs.Path.{Path}
 use Rattle.paths.proofs.PathLaws.{path-ok}
 use Rattle.search.specs.Steps.{Blocked, Corr, Stop, leastOver, usefulOf, shiftOf}
-use Rattle.search.specs.Inner.{Corrected, CorrsEnd, Corrs, Looked, Marked, none, more}
+use Rattle.search.specs.Inner.{Corrected, CorrsEnd, Corrs, Hot, Looked, Marked, none, more}
 use Rattle.search.specs.Run.{Run, correct, path, stop}
 use Rattle.search.proofs.Bounds.{corr-ok}
 use Rattle.search.proofs.Sought.{again}
@@ -125,15 +125,15 @@ module _ (n : ℕ) (c₀ : List Float) (rows cols : List ℕ) where
       pub corr-met : Corrected false n (times + 1) c₀ rows cols c'
       corr-met = record { corrs = corrs-now; end = omega arith }
 
-      pub corr-again : (R' C' : List Bool) → Looked n c' n cols R R C R' C' → CorrInv n c₀ rows cols c' R' C' (times + 1)
-      corr-again R' C' l =
+      pub corr-again : (F R' C' : List Bool) → Hot n R C c' F → Looked n c' n cols F R C R' C' → CorrInv n c₀ rows cols c' R' C' (times + 1)
+      corr-again F R' C' hot l =
           let n64 = h₀ .tables .n64 in
           let ok' = corr-ok n n64 (v .marked .ok) corr in
           record {
             marked = record {
               ok = ok';
               blocked = subst (λ (x : List Float). Blocked n (state x rows cols) R' C') (sym s)
-                  (again n c rows cols R C (v .marked) m R' C' (subst (λ (x : List Float). Looked n x n cols R R C R' C') s l));
+                  (again n c rows cols R C (v .marked) m F (subst (λ (x : List Float). Hot n R C x F) s hot) R' C' (subst (λ (x : List Float). Looked n x n cols F R C R' C') s l));
             };
             corrs = corrs-now;
             room = omega (arith, corrs-room n n64 h₀ corrs-now .1, measure-is n (state c₀ rows cols));

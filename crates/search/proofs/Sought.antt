@@ -14,7 +14,7 @@ use Rattle.square.proofs.Truth.{dec, not-both, not-of-false}
 use Rattle.paths.specs.Inner.{Leads}
 use Rattle.paths.specs.Path.{NoPathBelow}
 use Rattle.paths.specs.State.{State, state, Ok, Tables, paired}
-use Rattle.search.specs.Inner.{Freed, Looked, Marked, Met}
+use Rattle.search.specs.Inner.{Freed, Hot, Looked, Marked, Met}
 use Rattle.search.specs.Steps.{Blocked, Closed, Reached, Within, leastOver, shiftOf}
 use Rattle.search.proofs.Grow.{kept}
 use Rattle.search.proofs.Leads.{AllPaired, no-hit-in, leads}
@@ -69,9 +69,9 @@ module _ (n : ℕ) (c : List Float) (rows cols : List ℕ) (T : Tables n rows co
     };
   }
 
--- ---- after a correction: the sets that were reached are looked at again, and grow
-module _ (n : ℕ) (c : List Float) (rows cols : List ℕ) (R C : List Bool) (h : Marked n c rows cols R C) (m : Float) (R' C' : List Bool)
-    (v : Looked n (shiftOf n R C m c) n cols R R C R' C') where
+-- ---- after a correction: the rows reached that have a new zero are looked at again, and the sets grow
+module _ (n : ℕ) (c : List Float) (rows cols : List ℕ) (R C : List Bool) (h : Marked n c rows cols R C) (m : Float) (F : List Bool) (hot : Hot n R C (shiftOf n R C m c) F) (R' C' : List Bool)
+    (v : Looked n (shiftOf n R C m c) n cols F R C R' C') where
   abbrev c' : List Float
   c' = shiftOf n R C m c
 
@@ -80,7 +80,13 @@ module _ (n : ℕ) (c : List Float) (rows cols : List ℕ) (R C : List Bool) (h 
 
   again-closed : Closed c' n cols (on R') (on C')
   again-closed = record {
-    row = λ i j hi hj o z. ⊎-elim (λ (t : on R i ≡ true). v .own i j hi hj t z) (λ (f : on R i ≡ false). v .grown .new-row i j hi hj o f z) (dec (on R i));
+    row = λ i j hi hj o z. ⊎-elim
+        (λ (t : on R i ≡ true). ⊎-elim
+        (λ (q : on C j ≡ true). v .grown .keep-col j q)
+        (λ (q : on C j ≡ false). v .own i j hi hj (hot .all i j hi hj t q z) z)
+        (dec (on C j)))
+        (λ (f : on R i ≡ false). v .grown .new-row i j hi hj o f z)
+        (dec (on R i));
     col = λ j hj o l. ⊎-elim (λ (t : on C j ≡ true). v .grown .keep-row (getD cols j 0) (old .closed .col j hj t l)) (λ (f : on C j ≡ false). v .grown .new-col j hj o f .1) (dec (on C j));
   }
 
@@ -106,6 +112,6 @@ module _ (n : ℕ) (c : List Float) (rows cols : List ℕ) (R C : List Bool) (h 
       closed = again-closed;
       within = λ P Q k s.
           let w = kept n (h .ok .tables .n64) c (h .ok .len) rows cols R C m old P Q k s in
-          v .least P Q k w (λ i _ o. w .0 i o);
+          v .least P Q k w (λ i l o. w .0 i (hot .only i l o));
     };
   }

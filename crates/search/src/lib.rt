@@ -3,13 +3,15 @@ ghost use mathlib.Core.Path.{_≡_};
 ghost use mathlib.Core.Bool.{false};
 ghost use Prim.Native.Nat.{ℕ, _≤_, _<_};
 ghost use mathlib.Core.List.{List};
-ghost use lib.ListN.{length};
+ghost use lib.ListN.{length, getD};
+ghost use lib.Ieee.{nan, binary64, add, sub};
+ghost use Rattle.floats.specs.Float.{isZero};
 ghost use Rattle.square.specs.Index.{on};
-ghost use Rattle.square.specs.Square.{inRow, line};
+ghost use Rattle.square.specs.Square.{line};
 ghost use Rattle.paths.specs.State.{state, Ok};
-ghost use Rattle.search.specs.Steps.{leastRow, leastOver, usefulOf, shiftedOf, correction, shiftOf};
+ghost use Rattle.search.specs.Steps.{leastOver, usefulOf, shiftOf};
 ghost use Rattle.search.specs.Run.{Run};
-ghost use Rattle.search.specs.Inner.{Freed, RowDone, ColDone, Looked, Met, Marked, Corrected};
+ghost use Rattle.search.specs.Inner.{Freed, RowDone, ColDone, Looked, Met, Marked, Corrected, Columns, leastListed, listed, Below, Hot};
 
 // Step D: marks the free rows, and says whether there is one.
 fn free_rows(rows: &[usize; 64], n: usize, free: &mut [bool; 64]) -> bool
@@ -103,21 +105,39 @@ fn spread(
     row
 }
 
-// The smaller of m and a row's entries outside the marked columns, NaN passed over.
-fn least_row(c: &[f64; 4096], cs: &[bool; 64], row: usize, n: usize, least: f64) -> f64
-    requires { ⌜ (n ≤ 64) × (row < 64) ⌝ }
-    ensures { λ r. ⌜ r ≡ leastRow (now (c .entry)) (now (cs .entry)) row n least ⌝ }
+// The first listed column from place `from` on where a row's entry is smaller than m, or `used`.
+fn next_below(
+    c: &[f64; 4096],
+    row: usize,
+    columns: &[usize; 64],
+    used: usize,
+    from: usize,
+    m: f64,
+) -> usize
+    requires { ⌜ (row < 64) × Columns (now columns) used × (from ≤ used) ⌝ }
+    ensures { λ r. ⌜ Below (now (c .entry)) row (now (columns .entry)) used from m r ⌝ }
+{
+    let mut t = from;
+    while t < used {
+        if c[row * 64 + columns[t]] < m {
+            return t;
+        }
+        t += 1;
+    }
+    t
+}
+
+// The smaller of m and a row's entries in the listed columns, NaN passed over. Few are smaller than all before them: it goes from one of
+// these to the next, and tests the others only.
+fn least_row(c: &[f64; 4096], row: usize, columns: &[usize; 64], used: usize, least: f64) -> f64
+    requires { ⌜ (row < 64) × Columns (now columns) used ⌝ }
+    ensures { λ r. ⌜ r ≡ leastListed (now (c .entry)) row (now (columns .entry)) used least ⌝ }
 {
     let mut m = least;
-    let mut col = 0usize;
-    while col < n {
-        if !cs[col] {
-            let x = c[row * 64 + col];
-            if x < m {
-                m = x;
-            }
-        }
-        col += 1;
+    let mut t = next_below(c, row, columns, used, 0, m);
+    while t < used {
+        m = c[row * 64 + columns[t]];
+        t = next_below(c, row, columns, used, t + 1, m);
     }
     m
 }
@@ -127,11 +147,14 @@ fn least_over(c: &[f64; 4096], n: usize, rs: &[bool; 64], cs: &[bool; 64]) -> f6
     requires { ⌜ n ≤ 64 ⌝ }
     ensures { λ r. ⌜ r ≡ leastOver (now (c .entry)) n (now (rs .entry)) (now (cs .entry)) ⌝ }
 {
+    let outside = square::pick(cs, n, false);
+    let columns = outside.places;
+    let used = outside.used;
     let mut m = 1.0 / 0.0;
     let mut row = 0usize;
     while row < n {
         if rs[row] {
-            m = least_row(c, cs, row, n, m);
+            m = least_row(c, row, &columns, used, m);
         }
         row += 1;
     }
@@ -148,39 +171,66 @@ fn useful(m: f64) -> bool
     floats::is_finite(m)
 }
 
-// An entry after a correction: m is taken off in R outside C, and put on outside R in C.
-fn shifted(in_r: bool, in_c: bool, m: f64, x: f64) -> f64
-    ensures { λ r. ⌜ r ≡ shiftedOf «in_r» «in_c» m x ⌝ }
+// A row's listed entries less m, and whether one of them is a zero then.
+fn take_off(c: &mut [f64; 4096], row: usize, columns: &[usize; 64], used: usize, m: f64) -> bool
+    requires { ⌜ (row < 64) × Columns (now columns) used × (length (now c) ≡ 4096) ⌝ }
+    ensures taken { λ r. ⌜ now (c .exit) ≡ line (listed row (now (columns .entry))) used (λ _ x. sub binary64 x m) (now (c .entry)) ⌝ }
+    ensures zeros { λ r. ⌜ (r ≡ false → (t : ℕ) → t < used → isZero (getD (now (c .exit)) (listed row (now (columns .entry)) t) nan) ≡ false) ⌝ }
 {
-    if in_r {
-        if in_c { x } else { x - m }
-    } else {
-        if in_c { x + m } else { x }
+    let mut zero = false;
+    let mut t = 0usize;
+    while t < used {
+        let at = row * 64 + columns[t];
+        let x = c[at] - m;
+        c[at] = x;
+        if floats::is_zero(x) {
+            zero = true;
+        }
+        t += 1;
+    }
+    zero
+}
+
+// A row's listed entries and m.
+fn put_on(c: &mut [f64; 4096], row: usize, columns: &[usize; 64], used: usize, m: f64)
+    requires { ⌜ (row < 64) × Columns (now columns) used ⌝ }
+    ensures { λ r. ⌜ now (c .exit) ≡ line (listed row (now (columns .entry))) used (λ _ x. add binary64 x m) (now (c .entry)) ⌝ }
+{
+    let mut t = 0usize;
+    while t < used {
+        let at = row * 64 + columns[t];
+        c[at] = c[at] + m;
+        t += 1;
     }
 }
 
-// One row of a correction.
-fn shift_row(c: &mut [f64; 4096], rs: &[bool; 64], cs: &[bool; 64], m: f64, row: usize, n: usize)
-    requires { ⌜ (n ≤ 64) × (row < 64) ⌝ }
-    ensures { λ r. ⌜ now (c .exit) ≡ line (inRow row) n (correction (now (rs .entry)) (now (cs .entry)) m row) (now (c .entry)) ⌝ }
+// Step G: m is taken off in R outside C, and put on outside R in C. `hot` gets marks at the rows of R that have a new zero.
+fn shift(
+    c: &mut [f64; 4096],
+    n: usize,
+    rs: &[bool; 64],
+    cs: &[bool; 64],
+    m: f64,
+    hot: &mut [bool; 64],
+)
+    requires { ⌜ (n ≤ 64) × (length (now c) ≡ 4096) × (length (now hot) ≡ 64) ⌝ }
+    ensures shifted { λ r. ⌜ now (c .exit) ≡ shiftOf n (now (rs .entry)) (now (cs .entry)) m (now (c .entry)) ⌝ }
+    ensures marked { λ r. ⌜ Hot n (now (rs .entry)) (now (cs .entry)) (now (c .exit)) (now (hot .exit)) ⌝ }
 {
-    let in_r = rs[row];
-    let mut col = 0usize;
-    while col < n {
-        let at = row * 64 + col;
-        c[at] = shifted(in_r, cs[col], m, c[at]);
-        col += 1;
-    }
-}
-
-// Step G.
-fn shift(c: &mut [f64; 4096], n: usize, rs: &[bool; 64], cs: &[bool; 64], m: f64)
-    requires { ⌜ n ≤ 64 ⌝ }
-    ensures { λ r. ⌜ now (c .exit) ≡ shiftOf n (now (rs .entry)) (now (cs .entry)) m (now (c .entry)) ⌝ }
-{
+    let outside = square::pick(cs, n, false);
+    let away = outside.places;
+    let aways = outside.used;
+    let inside = square::pick(cs, n, true);
+    let home = inside.places;
+    let homes = inside.used;
     let mut row = 0usize;
     while row < n {
-        shift_row(c, rs, cs, m, row, n);
+        if rs[row] {
+            hot[row] = take_off(c, row, &away, aways, m);
+        } else {
+            hot[row] = false;
+            put_on(c, row, &home, homes, m);
+        }
         row += 1;
     }
 }
@@ -208,10 +258,10 @@ fn correct(
         if !useful(m) {
             return Corrections { times, stuck: true };
         }
-        shift(c, n, rs, cs, m);
+        let mut hot = [false; 64];
+        shift(c, n, rs, cs, m, &mut hot);
         times += 1;
-        let look = *rs;
-        if spread(c, n, cols, &look, rs, cs) < n {
+        if spread(c, n, cols, &hot, rs, cs) < n {
             return Corrections {
                 times,
                 stuck: false,

@@ -3,3 +3,4 @@ pub mod Index
 pub mod Count
 pub mod Gather
 pub mod Square
+pub mod Picking

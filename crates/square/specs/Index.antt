@@ -1,7 +1,7 @@
 -- Going over 0, 1, .., k - 1. Definitions only.
 use Prim.Native.Nat.{ℕ, zero, suc, _+_, _-_, _<_}
 use mathlib.Core.Path.{_≡_}
-use mathlib.Core.Bool.{Bool, false, cond, _||_}
+use mathlib.Core.Bool.{Bool, true, false, not, cond, _||_}
 use mathlib.Core.List.{List, [], _∷_, _++_}
 use lib.ListN.{getD, length, replicate}
 
@@ -42,3 +42,13 @@ pub record Once (k : ℕ) (l : List ℕ) : Type 0 where
 -- whether place i of a list of marks is marked
 abbrev pub on : List Bool → ℕ → Bool
 on l i = getD l i false
+
+-- a mark is as wanted
+abbrev pub like : Bool → Bool → Bool
+like true b = b
+like false b = not b
+
+-- the numbers below k whose mark is as wanted, rising, and how many
+pub record Picked (wanted : Bool) (marks : List Bool) (k : ℕ) (places : List ℕ) (used : ℕ) : Type 0 where
+  pub places-are : places ≡ filled 0 (gather k (λ i. like wanted (on marks i)) (λ i. i))
+  pub used-is : used ≡ count k (λ i. like wanted (on marks i))

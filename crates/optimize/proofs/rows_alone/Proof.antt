@@ -4,11 +4,11 @@ use borrow.Author.Needs.{needs}
 use Rattle.optimize.proofs.rows_alone.Statement.{statement}
 use Rattle.optimize.proofs.rows_alone.Tie as tie
 
-unmatched-requires : tie.Need-unmatched-requires
-unmatched-requires c κs = search needs
+pick-requires : tie.Need-pick-requires
+pick-requires c κs = search needs
 
 returns : tie.Need-returns
-returns c = alone-is _ _ _ (c .before .unmatched .ensures)
+returns c = alone-is _ _ _ (c .before .pick .ensures)
 
 pub rows-alone-spec : {M : Type 1} → statement M
-rows-alone-spec = tie.close (tie.spec unmatched-requires returns)
+rows-alone-spec = tie.close (tie.spec pick-requires returns)

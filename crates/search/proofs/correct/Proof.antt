@@ -1,7 +1,9 @@
 -- `search::correct` meets its contract, whatever table of rows goes with the marks. Assumes nothing.
 use Prim.Native.Nat.{ℕ, _-_}
 use mathlib.Core.List.{List}
+use mathlib.Core.Bool.{false}
 use native.Mathlib.Omega.{arith}
+use lib.ListN.{length-replicate}
 use borrow.Author.Tests.{not-true, not-false}
 use Rattle.search.specs.Inner.{Marked}
 use Rattle.search.proofs.SearchCode as code
@@ -30,11 +32,14 @@ returns c rows h =
     code.corr-stuck _ _ rows _ (h .ok) _ _ _ _ (a .loop .inv rows h) _ (b .least-over .ensures) _ (c .before .useful .ensures) (not-true _ (c .if1 .taken))
 
 shift-requires : tie.Need-shift-requires Inv-loop μ-loop
-shift-requires c κs = c .before .before .before .before .before .before .before .before .before .before .pre .1 .ok .tables .n64
+shift-requires c κs =
+    let a = c .before .before .before .before .before .before .before .before .before .before in
+    let v = a .loop .inv (a .before .pre .0) (a .before .pre .1) .marked .ok in
+    (v .tables .n64, v .len, length-replicate 64 false)
 
 add-times : tie.Need-add-times Inv-loop μ-loop
 add-times c =
-    let a = c .before .before .before .before .before .before .before .before .before .before in
+    let a = c .before .before .before .before .before .before .before .before .before .before .before in
     omega (arith, a .loop .inv (a .before .pre .0) (a .before .pre .1) .room)
 
 spread-requires : tie.Need-spread-requires Inv-loop μ-loop
@@ -45,11 +50,11 @@ spread-requires c κs =
 
 returns-2 : tie.Need-returns-2 Inv-loop μ-loop
 returns-2 c rows h =
-    let d = c .before .before .before .before .before .before .before in
-    let u = d .before .before .before .before in
+    let d = c .before .before .before .before .before .before in
+    let u = d .before .before .before .before .before in
     let b = u .before .before in
     let a = b .before .before .before .before in
-    code.corr-met _ _ rows _ (h .ok) _ _ _ _ (a .loop .inv rows h) _ (b .least-over .ensures) _ (u .before .useful .ensures) (not-false _ (u .if1 .left)) _ (d .shift .ensures)
+    code.corr-met _ _ rows _ (h .ok) _ _ _ _ (a .loop .inv rows h) _ (b .least-over .ensures) _ (u .before .useful .ensures) (not-false _ (u .if1 .left)) _ (d .shift .ensures .0)
 
 loop-less : tie.Need-loop-less Inv-loop μ-loop
 loop-less c =
@@ -58,11 +63,11 @@ loop-less c =
 
 loop-again : tie.Need-loop-again Inv-loop μ-loop
 loop-again c rows h =
-    let d = c .before .before .before .before .before .before .before in
-    let u = d .before .before .before .before in
+    let d = c .before .before .before .before .before .before in
+    let u = d .before .before .before .before .before in
     let b = u .before .before in
     let a = b .before .before .before .before in
-    code.corr-again _ _ rows _ (h .ok) _ _ _ _ (a .loop .inv rows h) _ (b .least-over .ensures) _ (u .before .useful .ensures) (not-false _ (u .if1 .left)) _ (d .shift .ensures) _ _ (c .before .spread .ensures .1 (c .if2 .left))
+    code.corr-again _ _ rows _ (h .ok) _ _ _ _ (a .loop .inv rows h) _ (b .least-over .ensures) _ (u .before .useful .ensures) (not-false _ (u .if1 .left)) _ (d .shift .ensures .0) _ _ _ (d .shift .ensures .1) (c .before .spread .ensures .1 (c .if2 .left))
 
 pub correct-spec : {M : Type 1} → statement M
 correct-spec =

@@ -1,61 +1,66 @@
--- `search::least_row` meets its contract: `m` is the minimum so far. Assumes nothing.
-use Prim.Native.Nat.{ℕ, _-_, _≤_}
+-- `search::least_row` meets its contract: `m` is the minimum before place `t`, and what stands there is smaller. Assumes nothing.
+use Prim.Native.Nat.{ℕ, _<_, _≤_, _-_}
+use mathlib.Core.Path.{_≡_, refl, sym, ap, _∙_}
+use mathlib.Core.Bool.{true}
 use native.Mathlib.Omega.{arith}
-use mathlib.Core.Path.{_≡_, sym, ap, _∙_}
-use mathlib.Core.Logic.{⊎-elim}
-use borrow.Author.Tests.{not-true, not-false}
-use Rattle.search.proofs.LoopCode as code
-use Rattle.search.specs.Steps.{leastRow}
+use lib.ListN.{getD}
+use lib.Ieee.{nan, lt}
+use Rattle.square.proofs.Square.{least-new}
+use Rattle.search.specs.Inner.{leastListed, listed}
+use Rattle.search.proofs.LoopCode.{listed-none, listed-more}
 use Rattle.search.proofs.least_row.Statement.{statement}
 use Rattle.search.proofs.least_row.Tie as tie
 
 abbrev Inv-loop : tie.InvT-loop
-Inv-loop c cs row n least m₀ col₀ m col = (col ≤ n) × (m ≡ leastRow c cs row col least)
+Inv-loop c row columns used least m₀ t₀ m t = (t ≤ used) × (m ≡ leastListed c row columns t least) × (t < used → lt (getD c (listed row columns t) nan) m ≡ true)
 
 abbrev μ-loop : tie.MeasureT-loop
-μ-loop c cs row n least m₀ col₀ m col = n - col
+μ-loop c row columns used least m₀ t₀ m t = used - t
+
+next-below-requires : tie.Need-next-below-requires Inv-loop μ-loop
+next-below-requires c κs = (c .pre .0, c .pre .1, omega arith)
 
 loop-holds : tie.Need-loop-holds Inv-loop μ-loop
-loop-holds c = (omega arith, sym (code.least-none _ _ _ _))
+loop-holds c = let b = c .next-below .ensures in (b .within, b .kept _ (sym (listed-none _ _ _ _)), b .less)
 
-element-copy-out-if1 : tie.Need-element-copy-out-if1 Inv-loop μ-loop
-element-copy-out-if1 c = omega arith
+mul-m : tie.Need-mul-m Inv-loop μ-loop
+mul-m c = omega arith
 
-mul-x : tie.Need-mul-x Inv-loop μ-loop
-mul-x c = omega arith
+mul-m-2 : tie.Need-mul-m-2 Inv-loop μ-loop
+mul-m-2 c = omega (arith, c .before .before .before .pre .1 .few)
 
-add-x : tie.Need-add-x Inv-loop μ-loop
-add-x c = omega arith
+element-copy-out-m : tie.Need-element-copy-out-m Inv-loop μ-loop
+element-copy-out-m c = omega (arith, c .before .before .before .pre .1 .few)
 
-mul-x-2 : tie.Need-mul-x-2 Inv-loop μ-loop
-mul-x-2 c = omega arith
+add-m : tie.Need-add-m Inv-loop μ-loop
+add-m c = omega (arith, c .before .before .before .before .pre .1 .inside _ (c .before .loop-test .taken))
 
-element-copy-out-x : tie.Need-element-copy-out-x Inv-loop μ-loop
-element-copy-out-x c = omega arith
+mul-m-3 : tie.Need-mul-m-3 Inv-loop μ-loop
+mul-m-3 c = omega (arith, c .before .before .before .before .pre .1 .inside _ (c .before .loop-test .taken))
 
-add-col : tie.Need-add-col Inv-loop μ-loop
-add-col c = omega arith
+element-copy-out-m-2 : tie.Need-element-copy-out-m-2 Inv-loop μ-loop
+element-copy-out-m-2 c = omega (arith, c .before .before .before .before .pre .1 .inside _ (c .before .loop-test .taken))
+
+add-next-below : tie.Need-add-next-below Inv-loop μ-loop
+add-next-below c = omega (arith, c .before .before .before .before .before .pre .1 .few)
+
+next-below-requires-2 : tie.Need-next-below-requires-2 Inv-loop μ-loop
+next-below-requires-2 c κs = let s = c .before .before .before .before .before in (s .pre .0, s .pre .1, omega arith)
 
 loop-less : tie.Need-loop-less Inv-loop μ-loop
-loop-less c = omega arith
+loop-less c = omega (arith, c .next-below2 .ensures .after)
 
 loop-again : tie.Need-loop-again Inv-loop μ-loop
 loop-again c =
-    let s = c .before .before .before .before in
-    let v = c .before .before .before .loop .inv .1 in
-    let k = c .before .before .before .loop .col in (
-      omega arith,
-      ⊎-elim
-          (λ w. code.turn-less (s .args .c .now) (s .args .cs .now) (s .args .row) k _ _ _ v (w .3) (not-true _ (w .0 .taken)) (w .2 .taken))
-          (λ u. ⊎-elim
-          (λ w. code.turn-kept (s .args .c .now) (s .args .cs .now) (s .args .row) k _ _ _ v (w .3) (not-true _ (w .0 .taken)) (w .2 .left))
-          (λ w. code.turn-marked (s .args .c .now) (s .args .cs .now) (s .args .row) k _ _ _ v (w .1) (not-false _ (w .0 .left)))
-          u)
-          (c .if1 .came),
-    )
+    let b = c .next-below2 .ensures in
+    let a = c .before .before .before .before in
+    (b .within, b .kept _ (listed-more _ _ _ (a .loop .t) _ _ _ (a .loop .inv .1) (least-new _ _ _ refl (a .loop .inv .2 (c .before .before .before .loop-test .taken)))), b .less)
 
 returns : tie.Need-returns Inv-loop μ-loop
-returns c = let e : c .before .loop .col ≡ c .before .before .args .n = omega arith in c .before .loop .inv .1 ∙ ap (λ (k : ℕ). leastRow (c .before .before .args .c .now) (c .before .before .args .cs .now) (c .before .before .args .row) k (c .before .before .args .least)) e
+returns c =
+    let s = c .before .before .before .args in
+    let e : c .before .loop .t ≡ s .used = omega arith in
+    c .before .loop .inv .1 ∙ ap (λ (k : ℕ). leastListed (s .c .now) (s .row) (s .columns .now) k (s .least)) e
 
 pub least-row-spec : {M : Type 1} → statement M
 least-row-spec =
@@ -63,13 +68,16 @@ least-row-spec =
     (tie.spec
     Inv-loop
     μ-loop
+    next-below-requires
     loop-holds
-    element-copy-out-if1
-    mul-x
-    add-x
-    mul-x-2
-    element-copy-out-x
-    add-col
+    mul-m
+    mul-m-2
+    element-copy-out-m
+    add-m
+    mul-m-3
+    element-copy-out-m-2
+    add-next-below
+    next-below-requires-2
     loop-less
     loop-again
     returns)
