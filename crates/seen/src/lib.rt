@@ -1,6 +1,6 @@
 // Ids in order of first appearance, in the first places of a run that is lent.
 // Ported from norfair-rs, metrics/accumulator.rs (NOTICE): a run with a used count where the Rust has a hash set.
-use slots::Lookup;
+use ids::Lookup;
 ghost use mathlib.Core.Path.{_≡_};
 ghost use Prim.Native.Nat.{_≤_, _<_};
 ghost use lib.ListN.{length, take};
@@ -66,7 +66,7 @@ pub fn see_all(run: &mut [i32], used: usize, ids: &[i32]) -> Seen
     let mut i: usize = 0;
     while i < ids.len() {
         let id = ids[i];
-        let found = slots::seek(&run[..count], id);
+        let found = ids::seek(&run[..count], id);
         let at = place_of(found, count);
         if at >= room {
             return Seen {
@@ -126,7 +126,7 @@ pub fn sound_up_to(ids: &[i32], used: usize, most: usize) -> bool
     if used > most {
         return false;
     }
-    slots::distinct(&ids[..used])
+    ids::distinct(&ids[..used])
 }
 
 // By its parts: so their length is known.
