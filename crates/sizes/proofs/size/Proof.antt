@@ -1,9 +1,9 @@
--- `extended_metrics::size` meets its contract. Assumes nothing.
+-- `sizes::size` meets its contract. Assumes nothing.
 use mathlib.Core.Path.{refl}
 use mir.Facts.{toZ-ofZ}
-use Rattle.extended_metrics.proofs.Laws as laws
-use Rattle.extended_metrics.proofs.size.Statement.{statement}
-use Rattle.extended_metrics.proofs.size.Tie as tie
+use Rattle.sizes.proofs.Laws as laws
+use Rattle.sizes.proofs.size.Statement.{statement}
+use Rattle.sizes.proofs.size.Tie as tie
 
 cast-result : tie.Need-cast-result
 cast-result c = rw (toZ-ofZ (c .fits .n)) (laws.cast-size (c .args .n) (c .pre) (c .fits .n))
