@@ -23,7 +23,8 @@ use Rattle.optimize.specs.declared.AssignmentResult.{AssignmentResult}
 use Rattle.optimize.specs.Answer.{assignmentNo, Answered, found, no-columns, passesOf, resultOf, rowsAlone}
 use Rattle.solver.specs.Solution.{solutionOf, answer-is}
 use Rattle.lifecycle.specs.Lifecycle.{fragments, roomToMatch, roomToMiss, matchedAfter, missedAfter, soundCounts}
-use Rattle.slots.specs.Slots.{seekFrom, missedSlot, matchedSlot, soundOf, countsSound, distinctOf}
+use Rattle.ids.specs.Ids.{seekFrom, distinctOf}
+use Rattle.slots.specs.Slots.{missedSlot, matchedSlot, soundOf, countsSound}
 use Rattle.rows.specs.declared.ExtendedMOTAccumulator.{ExtendedMOTAccumulator}
 use Rattle.rows.specs.Rows.{newState, rowAt, spotOf, stepOf, bookRow, trialAfter}
 use Rattle.frame.specs.declared.Booked.{Booked}

@@ -12,7 +12,7 @@ use Rattle.matrix.specs.Matrix.{rowOf, matrixOf}
 use Rattle.shape.specs.Shape.{sizeNo, fitNo, shapeNo}
 use Rattle.lifecycle.specs.Lifecycle.{fragments, soundCounts, roomToMatch, roomToMiss, matchedAfter, missedAfter}
 use Rattle.lifecycle.specs.Lifecycle.{updateMatchedOf, updateMissedOf, shareOf, coverageOf, classOf}
-use Rattle.slots.specs.Slots.{seekFrom, distinctOf}
+use Rattle.ids.specs.Ids.{seekFrom, distinctOf}
 use Rattle.sorting.specs.Sort.{put, putAll, sortOf}
 use Rattle.events.specs.Events.{totalOf, plusEach, sumFrom, tallyOf}
 use Rattle.scores.specs.Scores.{ratioOf, recallOf, motaOf}

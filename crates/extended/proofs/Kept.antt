@@ -8,7 +8,8 @@ use native.Mathlib.Nat.{not-suc-le-zero}
 use lib.IntN.{ℤ}
 use lib.ListN.{length, length-replicate}
 use lib.Ieee.{Float}
-use Rattle.slots.specs.Slots.{noSlot, countsSound, distinctOf, soundOf}
+use Rattle.ids.specs.Ids.{distinctOf}
+use Rattle.slots.specs.Slots.{noSlot, countsSound, soundOf}
 use Rattle.rows.specs.declared.ExtendedMOTAccumulator.{ExtendedMOTAccumulator}
 use Rattle.rows.specs.Rows.{newState}
 use Rattle.frame.specs.declared.Booked.{Booked}

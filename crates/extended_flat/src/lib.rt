@@ -43,7 +43,7 @@ fn table_sound(run: &[i32], used: usize) -> bool
     if !counts_sound(run, used) {
         return false;
     }
-    slots::distinct(&run[..used])
+    ids::distinct(&run[..used])
 }
 
 // Whether none of the six counters is negative.

@@ -15,10 +15,11 @@ use Rattle.counts.specs.Counts.{oneIf}
 use Rattle.lifecycle.specs.Lifecycle.{countsFit}
 use Rattle.slots.specs.declared.Slot.{Slot}
 use Rattle.slots.specs.declared.BookedSlot.{BookedSlot}
-use Rattle.slots.specs.declared.Lookup.{Lookup}
-use Rattle.slots.specs.declared.Lookup.the-variants.{At, Absent}
-use Rattle.slots.specs.Slots.{newSlot, noSlot, idOf, idsOf, seekOf, bookedSlot}
-use Rattle.slots.proofs.Lookups.{found-below}
+use Rattle.ids.specs.declared.Lookup.{Lookup}
+use Rattle.ids.specs.declared.Lookup.the-variants.{At, Absent}
+use Rattle.ids.specs.Ids.{seekOf}
+use Rattle.slots.specs.Slots.{newSlot, noSlot, idOf, idsOf, bookedSlot}
+use Rattle.ids.proofs.Lookups.{found-below}
 use Rattle.slots.proofs.Tables.{ids-long}
 use Rattle.slots.proofs.Kept.{booked-id}
 use Rattle.rows.specs.declared.ExtendedMOTAccumulator.{ExtendedMOTAccumulator}

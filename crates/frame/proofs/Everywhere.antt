@@ -13,11 +13,12 @@ use lib.Seq.{set-getD, getD-set-same, getD-set-other}
 use lib.Ieee.{Float}
 use Rattle.slots.specs.declared.Slot.{Slot}
 use Rattle.slots.specs.declared.Partner.{Partner}
-use Rattle.slots.specs.declared.Lookup.{Lookup}
-use Rattle.slots.specs.declared.Lookup.the-variants.{At, Absent}
-use Rattle.slots.specs.Slots.{newSlot, noSlot, idsOf, seekOf, bookedSlot}
+use Rattle.ids.specs.declared.Lookup.{Lookup}
+use Rattle.ids.specs.declared.Lookup.the-variants.{At, Absent}
+use Rattle.ids.specs.Ids.{seekOf}
+use Rattle.slots.specs.Slots.{newSlot, noSlot, idsOf, bookedSlot}
 use Rattle.slots.specs.Every.{Every}
-use Rattle.slots.proofs.Lookups.{found-below}
+use Rattle.ids.proofs.Lookups.{found-below}
 use Rattle.slots.proofs.Tables.{ids-long}
 use Rattle.rows.specs.declared.ExtendedMOTAccumulator.{ExtendedMOTAccumulator}
 use Rattle.rows.specs.declared.Row.{Row}

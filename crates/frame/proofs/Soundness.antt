@@ -17,11 +17,12 @@ use Rattle.counts.proofs.Tests.{both, all-three}
 use Rattle.counts.specs.Counts.{sameId}
 use Rattle.lifecycle.proofs.Kept.{fresh-sound}
 use Rattle.slots.specs.declared.Slot.{Slot}
-use Rattle.slots.specs.declared.Lookup.{Lookup}
-use Rattle.slots.specs.declared.Lookup.the-variants.{At, Absent}
-use Rattle.slots.specs.Slots.{newSlot, noSlot, idOf, idsOf, seekOf, bookedSlot, soundOf}
+use Rattle.ids.specs.declared.Lookup.{Lookup}
+use Rattle.ids.specs.declared.Lookup.the-variants.{At, Absent}
+use Rattle.ids.specs.Ids.{seekOf}
+use Rattle.slots.specs.Slots.{newSlot, noSlot, idOf, idsOf, bookedSlot, soundOf}
 use Rattle.slots.specs.Sound.{NotNegative, Sound}
-use Rattle.slots.proofs.Lookups.{found-below, absent-reads}
+use Rattle.ids.proofs.Lookups.{found-below, absent-reads}
 use Rattle.slots.proofs.Tables.{ids-long}
 use Rattle.slots.proofs.Kept.{booked-id, booked-sound}
 use Rattle.slots.proofs.Faults.{id-at, not-negative-reads, not-negative-is, sound-reads, sound-is}

@@ -11,9 +11,10 @@ use Rattle.lifecycle.specs.Lifecycle.{matchedAfter, missedAfter, countsFit}
 use Rattle.slots.specs.declared.Slot.{Slot}
 use Rattle.slots.specs.declared.Partner.{Partner}
 use Rattle.slots.specs.declared.Partner.the-variants.{Nobody, Id}
-use Rattle.slots.specs.declared.Lookup.{Lookup}
-use Rattle.slots.specs.declared.Lookup.the-variants.{At, Absent}
-use Rattle.slots.specs.Slots.{newSlot, noSlot, idOf, seekOf, switches}
+use Rattle.ids.specs.declared.Lookup.{Lookup}
+use Rattle.ids.specs.declared.Lookup.the-variants.{At, Absent}
+use Rattle.ids.specs.Ids.{seekOf}
+use Rattle.slots.specs.Slots.{newSlot, noSlot, idOf, switches}
 use Rattle.rows.specs.declared.ExtendedMOTAccumulator.{ExtendedMOTAccumulator}
 use Rattle.rows.specs.declared.Row.{Row}
 use Rattle.frame.specs.Frame.{roomForAll, sharesOf, nextFrame}

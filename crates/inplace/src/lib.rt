@@ -60,7 +60,7 @@ fn book_rows(
             k,
         );
         let used = t.used;
-        let spot = rows::spot_of(slots::seek(&run[..used], row.id), used);
+        let spot = rows::spot_of(ids::seek(&run[..used], row.id), used);
         let at = spot.at;
         let old = columns::read(&run[..], 256, at);
         places[k] = at;

@@ -6,7 +6,7 @@ use borrow.Author.Tests.{leb-true}
 use lib.Dec.{leb}
 use lib.ListN.{take}
 use Rattle.counts.proofs.Tests.{both, all-three}
-use Rattle.slots.specs.Slots.{distinctOf}
+use Rattle.ids.specs.Ids.{distinctOf}
 use Rattle.seen.specs.Seen.{hypothesesSound}
 use Rattle.partners.specs.Partners.{idsSound, truthsSound}
 use Rattle.metrics.specs.declared.MOTAccumulator.{MOTAccumulator}

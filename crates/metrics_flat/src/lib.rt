@@ -22,14 +22,14 @@ fn sound(table: &[i32], hypotheses: &[i32], used: Used) -> bool
     if truths > 256 {
         return false;
     }
-    if !slots::distinct(&table[..truths]) {
+    if !ids::distinct(&table[..truths]) {
         return false;
     }
     let known = used.hypotheses;
     if known > 1024 {
         return false;
     }
-    slots::distinct(&hypotheses[..known])
+    ids::distinct(&hypotheses[..known])
 }
 
 // The update of any runs and used counts: the lowest number that applies, and the used counts.

@@ -6,7 +6,7 @@ use borrow.Author.Tests.{leb-true}
 use lib.Dec.{leb}
 use lib.ListN.{take}
 use Rattle.counts.proofs.Tests.{both}
-use Rattle.slots.specs.Slots.{distinctOf}
+use Rattle.ids.specs.Ids.{distinctOf}
 use Rattle.partners.specs.Partners.{idsSound, truthsSound}
 use Rattle.motmetrics.specs.declared.MOTAccumulator.{MOTAccumulator}
 use Rattle.motmetrics.specs.State.{soundState}

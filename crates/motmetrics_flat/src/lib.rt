@@ -22,7 +22,7 @@ fn sound(table: &[i32], used: Used) -> bool
     if truths > 256 {
         return false;
     }
-    slots::distinct(&table[..truths])
+    ids::distinct(&table[..truths])
 }
 
 // The update of any runs and used counts: the lowest number that applies, and the used counts.

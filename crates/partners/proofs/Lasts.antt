@@ -9,11 +9,11 @@ use lib.ListN.{length, set, getD, List·getD-append}
 use lib.Seq.{getD-set-same, getD-set-other, getD-at}
 use Rattle.counts.specs.Counts.{sameId}
 use Rattle.counts.proofs.Ids.{same-refl}
-use Rattle.slots.specs.declared.Lookup.{Lookup}
-use Rattle.slots.specs.declared.Lookup.the-variants.{At, Absent}
+use Rattle.ids.specs.declared.Lookup.{Lookup}
+use Rattle.ids.specs.declared.Lookup.the-variants.{At, Absent}
 use Rattle.slots.specs.declared.Partner.the-variants.{Id}
-use Rattle.slots.specs.Slots.{seekFrom, seekOf}
-use Rattle.slots.proofs.Lookups.{found-below}
+use Rattle.ids.specs.Ids.{seekFrom, seekOf}
+use Rattle.ids.proofs.Lookups.{found-below}
 use Rattle.seen.proofs.Growth.{found-there}
 use Rattle.partners.specs.declared.Last.{Last}
 use Rattle.partners.specs.Partners.{nobody, lastIs, Pair, Table, lastAt, lastOf, matchAt, matchOne}

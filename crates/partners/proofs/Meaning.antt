@@ -12,9 +12,10 @@ use lib.IntN.{ℤ, pos}
 use lib.ListN.{length, take, drop, getD, length-append, length-set}
 use lib.Seq.{take-append-seam}
 use Rattle.counts.proofs.Tests.{both}
-use Rattle.slots.specs.declared.Lookup.{Lookup}
-use Rattle.slots.specs.declared.Lookup.the-variants.{At, Absent}
-use Rattle.slots.specs.Slots.{seekOf, switches, distinctOf}
+use Rattle.ids.specs.declared.Lookup.{Lookup}
+use Rattle.ids.specs.declared.Lookup.the-variants.{At, Absent}
+use Rattle.ids.specs.Ids.{seekOf, distinctOf}
+use Rattle.slots.specs.Slots.{switches}
 use Rattle.seen.specs.Seen.{seenAll}
 use Rattle.seen.proofs.Distinct.{all-once}
 use Rattle.partners.specs.declared.Truths.{Truths}

@@ -11,10 +11,11 @@ use lib.IntN.{ℤ}
 use lib.ListN.{length, take, drop, set, getD, length-append, length-set, length-map, drop-of-length-le, List·getD-map}
 use lib.Seq.{length-take-le, take-set-lt, take-suc-set, drop-set-lt, getD-take, drop-cons}
 use Rattle.slots.specs.declared.Partner.{Partner}
-use Rattle.slots.specs.declared.Lookup.{Lookup}
-use Rattle.slots.specs.declared.Lookup.the-variants.{At, Absent}
-use Rattle.slots.specs.Slots.{seekOf, switches}
-use Rattle.slots.proofs.Lookups.{found-below}
+use Rattle.ids.specs.declared.Lookup.{Lookup}
+use Rattle.ids.specs.declared.Lookup.the-variants.{At, Absent}
+use Rattle.ids.specs.Ids.{seekOf}
+use Rattle.slots.specs.Slots.{switches}
+use Rattle.ids.proofs.Lookups.{found-below}
 use Rattle.seen.specs.Seen.{seenAt, placeOf, usedWith}
 use Rattle.seen.proofs.Growth.{turn, full-run, drop-more, over-front, grows}
 use Rattle.partners.specs.declared.Last.{Last}

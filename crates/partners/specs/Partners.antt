@@ -8,9 +8,10 @@ use lib.IntN.{ℤ, pos}
 use lib.ListN.{length, take, getD, set, replicate}
 use Rattle.slots.specs.declared.Partner.{Partner}
 use Rattle.slots.specs.declared.Partner.the-variants.{Nobody, Id}
-use Rattle.slots.specs.declared.Lookup.{Lookup}
-use Rattle.slots.specs.declared.Lookup.the-variants.{At, Absent}
-use Rattle.slots.specs.Slots.{seekOf, switches, distinctOf}
+use Rattle.ids.specs.declared.Lookup.{Lookup}
+use Rattle.ids.specs.declared.Lookup.the-variants.{At, Absent}
+use Rattle.ids.specs.Ids.{seekOf, distinctOf}
+use Rattle.slots.specs.Slots.{switches}
 use Rattle.seen.specs.Seen.{over, seenAll}
 use Rattle.partners.specs.declared.Last.{Last}
 use Rattle.partners.specs.declared.Truths.{Truths}

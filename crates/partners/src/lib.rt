@@ -1,7 +1,7 @@
 // Truth ids and the hypotheses that they were last matched to, over the pairs of a frame; the ids that were seen.
 // Ported from norfair-rs, internal/motmetrics/accumulator.rs, which follows py-motmetrics, and metrics/accumulator.rs
 // (NOTICE): arrays with a used count where the Rust has hash maps and sets.
-use slots::Lookup;
+use ids::Lookup;
 use slots::Partner;
 ghost use mathlib.Core.Path.{_≡_};
 ghost use mathlib.Core.List.{_++_};
@@ -58,7 +58,7 @@ fn ids_sound(ids: [i32; 256], used: usize) -> bool
     if used > 256 {
         return false;
     }
-    slots::distinct(&ids[..used])
+    ids::distinct(&ids[..used])
 }
 
 pub fn truths_sound(t: Truths) -> bool
@@ -162,7 +162,7 @@ fn book_pairs(
         let col = k % w;
         let id = object_ids[row];
         let to = hypothesis_ids[col];
-        let found = slots::seek(&ids[..used], id);
+        let found = ids::seek(&ids[..used], id);
         let at = seen::place_of(found, used);
         if at >= 256 {
             return Booked {

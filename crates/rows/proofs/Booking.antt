@@ -12,10 +12,11 @@ use lib.ListN.{length, take, set, getD, replicate, length-set, List·getD-append
 use lib.Seq.{set-getD, take-set-lt, take-set-le, map-set-same, getD-take, getD-set-same}
 use Rattle.counts.specs.Counts.{oneIf}
 use Rattle.slots.specs.declared.Slot.{Slot}
-use Rattle.slots.specs.declared.Lookup.{Lookup}
-use Rattle.slots.specs.declared.Lookup.the-variants.{At, Absent}
-use Rattle.slots.specs.Slots.{noSlot, newSlot, idOf, idsOf, idsFilled, seekOf, bookedSlot}
-use Rattle.slots.proofs.Lookups.{found-below}
+use Rattle.ids.specs.declared.Lookup.{Lookup}
+use Rattle.ids.specs.declared.Lookup.the-variants.{At, Absent}
+use Rattle.ids.specs.Ids.{seekOf}
+use Rattle.slots.specs.Slots.{noSlot, newSlot, idOf, idsOf, idsFilled, bookedSlot}
+use Rattle.ids.proofs.Lookups.{found-below}
 use Rattle.slots.proofs.Tables.{ids-long, ids-more}
 use Rattle.slots.proofs.Faults.{id-at}
 use Rattle.slots.proofs.Kept.{booked-id}

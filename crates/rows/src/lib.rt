@@ -1,6 +1,6 @@
 // The rows of a frame, booked in a table of slots on a copy of the state: what would come of the frame, before anything of it is kept.
 // Ported from norfair-rs, internal/motmetrics/accumulator.rs, which follows py-motmetrics (NOTICE).
-use slots::Lookup;
+use ids::Lookup;
 use slots::Partner;
 use slots::Slot;
 ghost use mathlib.Core.Path.{_≡_};
@@ -205,7 +205,7 @@ pub fn book_rows(
             k,
         );
         let used = t.used;
-        let spot = spot_of(slots::seek(&ids[..used], row.id), used);
+        let spot = spot_of(ids::seek(&ids[..used], row.id), used);
         let at = spot.at;
         let p = book_at(spot, t.slots[at], used, row, frame);
         let slot = p.slot;

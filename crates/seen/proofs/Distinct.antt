@@ -14,11 +14,11 @@ use lib.Seq.{take-append-seam, getD-take, getD-append-seam}
 use Rattle.counts.specs.Counts.{sameId}
 use Rattle.counts.proofs.Ids.{same-refl}
 use Rattle.counts.proofs.Tests.{both}
-use Rattle.slots.specs.declared.Lookup.{Lookup}
-use Rattle.slots.specs.declared.Lookup.the-variants.{At, Absent}
-use Rattle.slots.specs.Slots.{seekOf, distinctOf}
-use Rattle.slots.proofs.Lookups.{found-below, absent-reads}
-use Rattle.slots.proofs.Faults.{distinct-reads, distinct-is}
+use Rattle.ids.specs.declared.Lookup.{Lookup}
+use Rattle.ids.specs.declared.Lookup.the-variants.{At, Absent}
+use Rattle.ids.specs.Ids.{seekOf, distinctOf}
+use Rattle.ids.proofs.Lookups.{found-below, absent-reads}
+use Rattle.ids.proofs.NoneTwice.{distinct-reads, distinct-is}
 use Rattle.seen.specs.declared.Hypotheses.{Hypotheses}
 use Rattle.seen.specs.declared.SeenHypotheses.{SeenHypotheses}
 use Rattle.seen.specs.Seen.{seenAt, seenOne, seenAll, over, hypothesesOf, seenBy, seenHypotheses, hypothesesSound}

@@ -10,8 +10,8 @@ use lib.IntN.{ℤ, pos}
 use lib.ListN.{length, take, getD}
 use lib.Seq.{getD-take, length-take-le}
 use Rattle.counts.proofs.Tests.{both}
-use Rattle.slots.specs.Slots.{distinctOf}
-use Rattle.slots.proofs.Faults.{distinct-reads, distinct-is}
+use Rattle.ids.specs.Ids.{distinctOf}
+use Rattle.ids.proofs.NoneTwice.{distinct-reads, distinct-is}
 use Rattle.seen.specs.Sound.{SoundIds}
 
 module _ (capacity : ℕ) (ids : List ℤ) (used : ℕ) (long : length ids ≡ capacity) where

@@ -12,10 +12,10 @@ use lib.ListN.{length, take, drop, set, getD, length-append, length-set, take-ap
 use lib.Seq.{take-take, drop-drop, take-all, take-at, take-length, length-take-le, take-set-lt, take-suc-set, drop-set-lt, set-getD, drop-cons}
 use Rattle.counts.specs.Counts.{sameId}
 use Rattle.counts.proofs.Ids.{same-eq}
-use Rattle.slots.specs.declared.Lookup.{Lookup}
-use Rattle.slots.specs.declared.Lookup.the-variants.{At, Absent}
-use Rattle.slots.specs.Slots.{seekFrom, seekOf}
-use Rattle.slots.proofs.Lookups.{found-below}
+use Rattle.ids.specs.declared.Lookup.{Lookup}
+use Rattle.ids.specs.declared.Lookup.the-variants.{At, Absent}
+use Rattle.ids.specs.Ids.{seekFrom, seekOf}
+use Rattle.ids.proofs.Lookups.{found-below}
 use Rattle.seen.specs.declared.Seen.{Seen}
 use Rattle.seen.specs.Seen.{seenAt, seenOne, seenAll, placeOf, usedWith, over, seenOf, runAfter}
 

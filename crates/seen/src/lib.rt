@@ -1,6 +1,6 @@
 // Ids in order of first appearance, in the first places of a run that is lent.
 // Ported from norfair-rs, metrics/accumulator.rs (NOTICE): a run with a used count where the Rust has a hash set.
-use slots::Lookup;
+use ids::Lookup;
 ghost use mathlib.Core.Path.{_≡_};
 ghost use Prim.Native.Nat.{_≤_, _<_};
 ghost use lib.ListN.{length, take};
@@ -66,7 +66,7 @@ pub fn see_all(run: &mut [i32], used: usize, ids: &[i32]) -> Seen
     let mut i: usize = 0;
     while i < ids.len() {
         let id = ids[i];
-        let found = slots::seek(&run[..count], id);
+        let found = ids::seek(&run[..count], id);
         let at = place_of(found, count);
         if at >= room {
             return Seen {
@@ -124,7 +124,7 @@ fn ids_sound(ids: [i32; 1024], used: usize) -> bool
     if used > 1024 {
         return false;
     }
-    slots::distinct(&ids[..used])
+    ids::distinct(&ids[..used])
 }
 
 // Whether hypotheses that are handed in are such that refusal 1 lets them by.

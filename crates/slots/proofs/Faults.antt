@@ -1,6 +1,6 @@
 -- `soundOf` is true exactly where none of document 01's three faults is there. Assumes nothing.
 use mathlib.Core.Path.{_≡_, refl, sym, ap, _∙_}
-use mathlib.Core.Bool.{Bool, true, false, _&&_, true≢false}
+use mathlib.Core.Bool.{true, _&&_}
 use mathlib.Core.List.{List, [], _∷_}
 use Prim.Native.Nat.{ℕ, zero, suc, _<_, _≤_}
 use native.Mathlib.Nat.{not-suc-le-zero, le-of-suc-le-suc}
@@ -11,39 +11,15 @@ use lib.IntN.{ℤ, pos}
 use lib.Signed.{nonNeg}
 use lib.ListN.{length, take, getD, List·getD-map}
 use lib.Seq.{getD-take, length-take-le}
-use Rattle.counts.specs.Counts.{sameId}
-use Rattle.counts.proofs.Ids.{same-eq, same-refl}
 use Rattle.counts.proofs.Tests.{both, all-three}
 use Rattle.lifecycle.specs.declared.TrackLifecycle.{TrackLifecycle}
 use Rattle.lifecycle.specs.Lifecycle.{soundCounts}
 use Rattle.slots.specs.declared.Slot.{Slot}
-use Rattle.slots.specs.Slots.{noSlot, idOf, idsOf, seekOf, isAbsent, distinctOf, countsSound, soundOf}
+use Rattle.ids.specs.Ids.{distinctOf}
+use Rattle.slots.specs.Slots.{noSlot, idOf, idsOf, countsSound, soundOf}
 use Rattle.slots.specs.Sound.{NotNegative, Sound}
-use Rattle.slots.proofs.Lookups.{absent-reads, absent-is, absent-yes}
+use Rattle.ids.proofs.NoneTwice.{distinct-reads, distinct-is}
 use Rattle.slots.proofs.Tables.{ids-long}
-
-not-same : (a b : ℤ) → (a ≡ b → ⊥) → (t : Bool) → sameId a b ≡ t → sameId a b ≡ false
-not-same a b h true e = absurd (h (same-eq a b e))
-not-same a b h false e = e
-
--- ---- no id twice
-pub distinct-reads : (l : List ℤ) → distinctOf l ≡ true → (i j : ℕ) → i < j → j < length l → getD l i (pos 0) ≡ getD l j (pos 0) → ⊥
-unfolding distinctOf
-distinct-reads [] e i j p q s = absurd (not-suc-le-zero q)
-distinct-reads (x ∷ xs) e i zero p q s = absurd (not-suc-le-zero p)
-distinct-reads (x ∷ xs) e zero (suc j) p q s =
-    let a = absent-reads 0 xs x (absent-yes (seekOf xs x) (both (isAbsent (seekOf xs x)) (distinctOf xs) e .0)) j (le-of-suc-le-suc q) in
-    true≢false (sym (same-refl x) ∙ (ap (λ (z : ℤ). sameId z x) s ∙ a))
-distinct-reads (x ∷ xs) e (suc i) (suc j) p q s =
-    distinct-reads xs (both (isAbsent (seekOf xs x)) (distinctOf xs) e .1) i j (le-of-suc-le-suc p) (le-of-suc-le-suc q) s
-
-pub distinct-is : (l : List ℤ) → ((i j : ℕ) → i < j → j < length l → getD l i (pos 0) ≡ getD l j (pos 0) → ⊥) → distinctOf l ≡ true
-unfolding distinctOf
-distinct-is [] f = refl
-distinct-is (x ∷ xs) f =
-    let away : (j : ℕ) → j < length xs → sameId (getD xs j (pos 0)) x ≡ false =
-    λ j h. not-same (getD xs j (pos 0)) x (λ s. f 0 (suc j) (omega arith) (omega arith) (sym s)) (sameId (getD xs j (pos 0)) x) refl in
-    rw (absent-is 0 xs x away) (distinct-is xs (λ (i j : ℕ) (p : i < j) (q : j < length xs). f (suc i) (suc j) (omega arith) (omega arith)))
 
 -- ---- no negative count
 pub counts-read : (l : List Slot) → countsSound l ≡ true → (i : ℕ) → i < length l → soundCounts (getD l i noSlot .lifecycle) ≡ true

@@ -1,4 +1,3 @@
-pub mod Lookups
 pub mod Tables
 pub mod Faults
 pub mod Kept

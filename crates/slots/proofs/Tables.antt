@@ -1,4 +1,4 @@
--- The used places of a table, place by place: their ids, their counts, and that no id stands twice. Assumes nothing.
+-- The used places of a table, place by place: their ids and their counts. Assumes nothing.
 use mathlib.Core.Path.{_≡_, sym, ap, _∙_}
 use mathlib.Core.Bool.{true, false}
 use mathlib.Core.List.{List, [], _∷_, _++_, map, map-append}
@@ -10,7 +10,7 @@ use lib.ListN.{length, take, drop, set, getD, replicate, length-map, length-appe
 use lib.Seq.{take-suc, take-at, set-at, append-snoc, drop-cons, getD-take, length-take-le}
 use Rattle.lifecycle.specs.Lifecycle.{soundCounts}
 use Rattle.slots.specs.declared.Slot.{Slot}
-use Rattle.slots.specs.Slots.{noSlot, idOf, idsOf, idsFilled, seekOf, isAbsent, distinctOf, countsSound}
+use Rattle.slots.specs.Slots.{noSlot, idOf, idsOf, idsFilled, countsSound}
 
 pub ids-long : (slots : List Slot) (n : ℕ) → n ≤ length slots → length (idsOf slots n) ≡ n
 ids-long slots n k = length-map (take n slots) idOf ∙ length-take-le n slots k
@@ -39,7 +39,7 @@ ids-more slots ids i z l h e q =
     (sym (map-append idOf (take i slots) (getD slots i noSlot ∷ []))
     ∙ (ap (map idOf) (sym (take-suc slots i noSlot (omega arith))) ∙ ap (idsOf slots) (sym (add-one i)))))))
 
--- ---- one turn of each test's loop
+-- ---- one turn of the test's loop
 module _ (slots : List Slot) (used i : ℕ) (h : i < used) (k : used ≤ length slots) where
   counted : drop i (take used slots) ≡ getD slots i noSlot ∷ drop (i + 1) (take used slots)
   counted =
@@ -53,15 +53,3 @@ module _ (slots : List Slot) (used i : ℕ) (h : i < used) (k : used ≤ length 
   pub count-next : soundCounts (getD slots i noSlot .lifecycle) ≡ true → countsSound (drop i (take used slots)) ≡ countsSound (drop (i + 1) (take used slots))
   unfolding countsSound
   count-next e = rw (counted, e)
-
-module _ (ids : List ℤ) (i : ℕ) (h : i < length ids) where
-  rest : drop i ids ≡ getD ids i (pos 0) ∷ drop (i + 1) ids
-  rest = rw (add-one i) (drop-cons ids i (pos 0) h)
-
-  pub twice : isAbsent (seekOf (drop (i + 1) ids) (getD ids i (pos 0))) ≡ false → distinctOf (drop i ids) ≡ false
-  unfolding distinctOf
-  twice e = rw (rest, e)
-
-  pub once : isAbsent (seekOf (drop (i + 1) ids) (getD ids i (pos 0))) ≡ true → distinctOf (drop i ids) ≡ distinctOf (drop (i + 1) ids)
-  unfolding distinctOf
-  once e = rw (rest, e)

@@ -1,18 +1,17 @@
--- Document 01, "Lifecycles and events": the slot of a truth id, its lookup and its booking, and refusal 1 for a table.
+-- Document 01, "Lifecycles and events": the slot of a truth id, its booking, and refusal 1 for a table.
 use mathlib.Core.Bool.{Bool, true, false, not, _&&_, cond}
 use mathlib.Core.List.{List, [], _∷_, _++_, map}
-use Prim.Native.Nat.{ℕ, suc, _-_}
+use Prim.Native.Nat.{ℕ, _-_}
 use lib.Dec.{leb}
 use lib.IntN.{ℤ, pos}
 use lib.ListN.{take, replicate}
 use Rattle.counts.specs.Counts.{sameId}
+use Rattle.ids.specs.Ids.{distinctOf}
 use Rattle.lifecycle.specs.declared.TrackLifecycle.{TrackLifecycle}
 use Rattle.lifecycle.specs.Lifecycle.{fresh, matchedAfter, missedAfter, roomToMatch, roomToMiss, soundCounts}
 use Rattle.slots.specs.declared.Slot.{Slot}
 use Rattle.slots.specs.declared.Partner.{Partner}
 use Rattle.slots.specs.declared.Partner.the-variants.{Nobody, Id}
-use Rattle.slots.specs.declared.Lookup.{Lookup}
-use Rattle.slots.specs.declared.Lookup.the-variants.{At, Absent}
 use Rattle.slots.specs.declared.BookedSlot.{BookedSlot}
 
 abbrev pub newSlot : ℤ → ℤ → Slot
@@ -25,15 +24,7 @@ noSlot = newSlot (pos 0) (pos 0)
 abbrev pub idOf : Slot → ℤ
 idOf s = s .lifecycle .«gt_id»
 
--- ---- the lookup
--- the first place that holds the id, places counted from i on
-unfoldable pub seekFrom : ℕ → List ℤ → ℤ → Lookup
-seekFrom i [] id = Absent
-seekFrom i (x ∷ xs) id = cond (sameId x id) (At i) (seekFrom (suc i) xs id)
-
-abbrev pub seekOf : List ℤ → ℤ → Lookup
-seekOf ids id = seekFrom 0 ids id
-
+-- ---- the ids
 -- the ids of the first used slots
 abbrev pub idsOf : List Slot → ℕ → List ℤ
 idsOf slots used = map idOf (take used slots)
@@ -66,15 +57,6 @@ bookedSlot s Nobody frame = missedSlot s frame
 bookedSlot s (Id to) frame = matchedSlot s to frame
 
 -- ---- refusal 1
-abbrev pub isAbsent : Lookup → Bool
-isAbsent (At k) = false
-isAbsent Absent = true
-
--- no id twice
-unfoldable pub distinctOf : List ℤ → Bool
-distinctOf [] = true
-distinctOf (x ∷ xs) = isAbsent (seekOf xs x) && distinctOf xs
-
 -- no negative count in the slots
 unfoldable pub countsSound : List Slot → Bool
 countsSound [] = true

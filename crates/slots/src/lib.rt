@@ -1,11 +1,11 @@
-// A table of truth ids: a slot for each, looked up, booked, and tested for soundness.
+// A table of truth ids: a slot for each, booked, and tested for soundness.
 // Ported from norfair-rs, internal/motmetrics/accumulator.rs, which follows py-motmetrics (NOTICE): arrays with a used
 // count where the Rust has two hash maps.
 use lifecycle::TrackLifecycle;
 ghost use mathlib.Core.Path.{_≡_};
 ghost use Prim.Native.Nat.{_≤_};
 ghost use lib.ListN.{length, take};
-ghost use Rattle.slots.specs.Slots.{newSlot, seekOf, switches, missedSlot, matchedSlot, bookedSlot, idsFilled, distinctOf, countsSound, soundOf};
+ghost use Rattle.slots.specs.Slots.{newSlot, switches, missedSlot, matchedSlot, bookedSlot, idsFilled, countsSound, soundOf};
 
 // The prediction that a truth id was last matched to, or none yet.
 pub enum Partner {
@@ -16,12 +16,6 @@ pub enum Partner {
 pub struct Slot {
     pub lifecycle: TrackLifecycle,
     pub partner: Partner,
-}
-
-// Where an id stands.
-pub enum Lookup {
-    At(usize),
-    Absent,
 }
 
 // A slot after a frame in which its id stood: the slot as it was, and over, where a count would pass.
@@ -39,21 +33,6 @@ pub fn new_slot(id: i32, frame: i32) -> Slot
         lifecycle: TrackLifecycle::new(id, frame),
         partner: Partner::Nobody,
     }
-}
-
-// The first place that holds the id.
-pub fn seek(ids: &[i32], id: i32) -> Lookup
-    ensures { λ r. ⌜ r ≡ seekOf (now (ids .entry)) id ⌝ }
-{
-    let n = ids.len();
-    let mut i: usize = 0;
-    while i < n {
-        if counts::same_id(ids[i], id) {
-            return Lookup::At(i);
-        }
-        i = i + 1;
-    }
-    Lookup::Absent
 }
 
 // Whether a match is a switch: the id was matched before, and to another.
@@ -140,22 +119,6 @@ pub fn ids_of(slots: [Slot; 256], used: usize) -> [i32; 256]
     ids
 }
 
-// Whether no id stands twice.
-pub fn distinct(ids: &[i32]) -> bool
-    ensures { λ r. ⌜ r ≡ distinctOf (now (ids .entry)) ⌝ }
-{
-    let n = ids.len();
-    let mut i: usize = 0;
-    while i < n {
-        let after = i + 1;
-        let Lookup::Absent = seek(&ids[after..], ids[i]) else {
-            return false;
-        };
-        i = after;
-    }
-    true
-}
-
 // Whether no slot in use has a negative count.
 fn counts_sound(slots: [Slot; 256], used: usize) -> bool
     requires { ⌜ used ≤ 256 ⌝ }
@@ -184,5 +147,5 @@ pub fn sound(slots: [Slot; 256], used: usize) -> bool
         return false;
     }
     let ids = ids_of(slots, used);
-    distinct(&ids[..used])
+    ids::distinct(&ids[..used])
 }

@@ -11,9 +11,9 @@ use lib.IntN.{ℤ, pos}
 use lib.ListN.{length, take, drop, set, getD, length-append, length-set, drop-of-length-le}
 use lib.Seq.{length-take-le, take-suc-set, drop-cons}
 use Rattle.counts.specs.Counts.{sameId}
-use Rattle.slots.specs.declared.Lookup.{Lookup}
-use Rattle.slots.specs.declared.Lookup.the-variants.{At, Absent}
-use Rattle.slots.specs.Slots.{seekFrom, seekOf, isAbsent}
+use Rattle.ids.specs.declared.Lookup.{Lookup}
+use Rattle.ids.specs.declared.Lookup.the-variants.{At, Absent}
+use Rattle.ids.specs.Ids.{seekFrom, seekOf, isAbsent}
 use Rattle.seen.specs.Seen.{seenAt, seenOne, seenAll}
 use Rattle.truths_in_place.specs.Table.{fitIn}
 

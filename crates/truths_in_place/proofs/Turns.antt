@@ -11,8 +11,9 @@ use lib.IntN.{ℤ, pos}
 use lib.ListN.{length, take, drop, set, getD, drop-of-length-le}
 use lib.Seq.{length-take-le, take-take}
 use Rattle.columns.specs.Columns.{putAll}
-use Rattle.slots.specs.declared.Lookup.{Lookup}
-use Rattle.slots.specs.Slots.{seekOf, switches}
+use Rattle.ids.specs.declared.Lookup.{Lookup}
+use Rattle.ids.specs.Ids.{seekOf}
+use Rattle.slots.specs.Slots.{switches}
 use Rattle.seen.specs.Seen.{placeOf, usedWith}
 use Rattle.partners.specs.declared.Last.{Last}
 use Rattle.partners.specs.declared.Booked.{Booked}

@@ -8,8 +8,8 @@ use lib.Dec.{ltb}
 use lib.IntN.{ℤ, pos}
 use lib.ListN.{length, take, getD, replicate}
 use Rattle.columns.specs.Columns.{partnerOf, cell, putAll}
-use Rattle.slots.specs.declared.Lookup.{Lookup}
-use Rattle.slots.specs.Slots.{seekOf}
+use Rattle.ids.specs.declared.Lookup.{Lookup}
+use Rattle.ids.specs.Ids.{seekOf}
 use Rattle.seen.specs.Seen.{over, placeOf, usedWith, seenAll}
 use Rattle.partners.specs.declared.Last.{Last}
 use Rattle.partners.specs.declared.Truths.{Truths}

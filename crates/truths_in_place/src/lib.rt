@@ -1,14 +1,15 @@
 // The tables of ids in place: truth ids with their last partners, and hypothesis ids, in lent runs of numbers. Whether a frame's ids
 // find room is settled before anything is written, so nothing is ever put back.
 // Ported from norfair-rs, internal/motmetrics/accumulator.rs, which follows py-motmetrics, and metrics/accumulator.rs (NOTICE).
-use slots::Lookup;
+use ids::Lookup;
 ghost use mathlib.Core.Path.{_≡_};
 ghost use mathlib.Core.Bool.{not, false};
 ghost use mathlib.Core.List.{[], _∷_, _++_};
 ghost use Prim.Native.Nat.{ℕ, _+_, _*_, _<_, _≤_};
 ghost use lib.ListN.{length, take, getD};
 ghost use Rattle.columns.specs.Columns.{putAll};
-ghost use Rattle.slots.specs.Slots.{seekOf, isAbsent, switches};
+ghost use Rattle.ids.specs.Ids.{seekOf, isAbsent};
+ghost use Rattle.slots.specs.Slots.{switches};
 ghost use Rattle.seen.specs.Seen.{seenAll, hypothesesOf, seenHypotheses};
 ghost use Rattle.partners.specs.Partners.{lastIn, pairsOf, bookedOf, seenTruths};
 ghost use Rattle.truths_in_place.specs.Table.{lastFrom, truthsIn, fitIn, rowIdsOf, MatchesBooked, cleared, TruthsSeen};
@@ -23,10 +24,10 @@ pub struct Matched {
 fn is_new(known: &[i32], fresh: &[i32], id: i32) -> bool
     ensures { λ r. ⌜ r ≡ isAbsent (seekOf (now (known .entry) ++ now (fresh .entry)) id) ⌝ }
 {
-    let Lookup::Absent = slots::seek(known, id) else {
+    let Lookup::Absent = ids::seek(known, id) else {
         return false;
     };
-    let Lookup::Absent = slots::seek(fresh, id) else {
+    let Lookup::Absent = ids::seek(fresh, id) else {
         return false;
     };
     true
@@ -198,7 +199,7 @@ pub fn book_matches(
         let col = k % w;
         let id = object_ids[row];
         let to = hypothesis_ids[col];
-        let found = slots::seek(&table[..count], id);
+        let found = ids::seek(&table[..count], id);
         let at = seen::place_of(found, count);
         let b = at + 256;
         let c = b + 256;

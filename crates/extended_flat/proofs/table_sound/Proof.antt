@@ -3,7 +3,8 @@ use mathlib.Core.Path.{sym, ap, _∙_}
 use native.Mathlib.Omega.{arith}
 use borrow.Author.Tests.{not-true, not-false, le-leb, lt-leb}
 use lib.Seq.{length-take-le}
-use Rattle.slots.specs.Slots.{soundOf, distinctOf}
+use Rattle.ids.specs.Ids.{distinctOf}
+use Rattle.slots.specs.Slots.{soundOf}
 use Rattle.columns.proofs.Laws.{ids-there}
 use borrow.Author.Needs.{needs}
 use Rattle.extended_flat.proofs.table_sound.Statement.{statement}

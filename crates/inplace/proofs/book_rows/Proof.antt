@@ -11,8 +11,9 @@ use mir.Val.{toZ, ofZ}
 use mir.Facts.{toZ-ofZ}
 use Rattle.counts.proofs.Ids.{back}
 use Rattle.slots.specs.declared.Slot.{Slot}
-use Rattle.slots.specs.declared.Lookup.{Lookup}
-use Rattle.slots.specs.Slots.{seekOf, noSlot}
+use Rattle.ids.specs.declared.Lookup.{Lookup}
+use Rattle.ids.specs.Ids.{seekOf}
+use Rattle.slots.specs.Slots.{noSlot}
 use Rattle.columns.specs.Columns.{cellsOf, cellsAt, slotOf, put, Within}
 use Rattle.columns.proofs.Laws.{put-long, slots-long, slot-at, within, ids-there}
 use Rattle.rows.specs.declared.Row.{Row}

@@ -4,7 +4,7 @@ use native.Mathlib.Omega.{arith}
 use borrow.Author.Tests.{le-leb, lt-leb, not-true, not-false}
 use lib.ListN.{take}
 use lib.Seq.{length-take-le, take-take}
-use Rattle.slots.specs.Slots.{distinctOf}
+use Rattle.ids.specs.Ids.{distinctOf}
 use Rattle.seen.specs.Seen.{hypothesesSound}
 use Rattle.partners.specs.Partners.{idsSound}
 use Rattle.metrics.specs.State.{soundState}

@@ -3,7 +3,7 @@ use mathlib.Core.Path.{sym, ap, _∙_}
 use native.Mathlib.Omega.{arith}
 use borrow.Author.Tests.{le-leb, lt-leb}
 use lib.Seq.{length-take-le, take-take}
-use Rattle.slots.specs.Slots.{distinctOf}
+use Rattle.ids.specs.Ids.{distinctOf}
 use Rattle.partners.specs.Partners.{idsSound}
 use Rattle.motmetrics.specs.State.{soundState}
 use borrow.Author.Needs.{needs}

@@ -9,8 +9,9 @@ use mir.Syntax.{w32}
 use mir.Val.{toZ, ofZ}
 use mir.Facts.{toZ-ofZ}
 use Rattle.counts.proofs.Ids.{back}
-use Rattle.slots.specs.declared.Lookup.{Lookup}
-use Rattle.slots.specs.Slots.{idsFilled, seekOf, idOf, noSlot}
+use Rattle.ids.specs.declared.Lookup.{Lookup}
+use Rattle.ids.specs.Ids.{seekOf}
+use Rattle.slots.specs.Slots.{idsFilled, idOf, noSlot}
 use Rattle.rows.specs.declared.Row.{Row}
 use Rattle.rows.specs.declared.Spot.{Spot}
 use Rattle.rows.specs.declared.Step.{Step}

@@ -4,7 +4,8 @@ use native.Mathlib.Omega.{arith}
 use borrow.Author.Tests.{not-true, not-false, le-leb, lt-leb}
 use lib.ListN.{length, take}
 use lib.Seq.{length-take-le}
-use Rattle.slots.specs.Slots.{soundOf, distinctOf}
+use Rattle.ids.specs.Ids.{distinctOf}
+use Rattle.slots.specs.Slots.{soundOf}
 use Rattle.slots.proofs.Tables.{filled-long, ids-taken}
 use borrow.Author.Needs.{needs}
 use Rattle.slots.proofs.sound.Statement.{statement}

@@ -2,7 +2,7 @@
 use mathlib.Core.Path.{_≡_, sym, ap, _∙_}
 use mathlib.Core.Bool.{true, false}
 use mir.Facts.{toZ-ofZ}
-use Rattle.slots.specs.Slots.{seekOf, isAbsent}
+use Rattle.ids.specs.Ids.{seekOf, isAbsent}
 use Rattle.truths_in_place.proofs.Counting.{by-two, not-first}
 use borrow.Author.Needs.{needs}
 use Rattle.truths_in_place.proofs.is_new.Statement.{statement}
