@@ -1,10 +1,12 @@
-//! Links the port's archives, which bench/run has made for this machine.
+//! Links the port's archives, which bench/build has made for this machine.
 fn main() {
-    let folder = std::env::var("PORT_ARCHIVE_DIR").expect("bench/run sets PORT_ARCHIVE_DIR");
+    let told = |name: &str| std::env::var(name).unwrap_or_else(|_| panic!("bench/build sets {name}"));
+    let folder = told("PORT_ARCHIVE_DIR");
     println!("cargo:rustc-link-search=native={folder}");
-    for archive in ["mot_c", "extended_c", "motmetrics_c", "metrics_c", "bench_c"] {
+    for archive in told("PORT_ARCHIVES").split(' ') {
         println!("cargo:rustc-link-lib=static={archive}");
         println!("cargo:rerun-if-changed={folder}/lib{archive}.a");
     }
     println!("cargo:rerun-if-env-changed=PORT_ARCHIVE_DIR");
+    println!("cargo:rerun-if-env-changed=PORT_ARCHIVES");
 }

@@ -130,6 +130,8 @@ def _full():
         yield metrics(state(truths=truths, log_used=MOST_EVENTS - left), new, frame(1, [900, A, 7, B], [1, C]),
                       frame_words(1, [900], A[:3], [1], A, word(0.5)), frame_words(1, [900] * 65, A, [1], A, word(0.5)),
                       frame(1, [7, A], [1, A]), frame(1, [7, A], [1, B]), NOTHING)
+    # and 1 before all
+    yield metrics(state(truths=truths, log_used=MOST_EVENTS + 1), new)
     for left in (128, 127):
         yield metrics(state(log_used=MOST_EVENTS - left), frame_words(1, list(range(64)), A * 64, [], [], word(0.5)),
                       frame_words(1, [], [], list(range(64)), A * 64, word(0.5)))

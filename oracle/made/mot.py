@@ -106,6 +106,9 @@ def _full():
         yield mot(state(matches=matches(256), log_used=MOST_EVENTS - left), new, both, missed, frame(1, [7], [1], []),
                   frame(1, [7] * 65, [], []), frame(1, [7, 900], [1, 2], [0, 1, 1, 0]), frame(1, [7], [1], [0]),
                   NOTHING)
+    # 1, 2 and 3 come before 5
+    yield mot(state(matches=matches(256), log_used=MOST_EVENTS + 1), new)
+    yield mot(state(matches=matches(256)), frame(1, list(range(900, 965)), [1], [0] * 65), frame(1, [900], [1], [0, 1]))
     # 64 misses beside 64 false positives, with room for all and for all but one
     for left in (128, 127):
         start = state(log_used=MOST_EVENTS - left)

@@ -1,6 +1,6 @@
 -- The update of lent numbers, by the ways that the code goes. Assumes nothing.
 use mathlib.Core.Path.{_≡_, refl, sym, ap, _∙_}
-use mathlib.Core.Bool.{Bool, true, false, cond, true≢false}
+use mathlib.Core.Bool.{true, false}
 use mathlib.Core.List.{List, [], _∷_}
 use Prim.Native.Nat.{ℕ, _≤_}
 use native.Mathlib.Omega.{arith}
@@ -10,6 +10,8 @@ use lib.IntN.{ℤ}
 use lib.Signed.{nonNeg}
 use lib.ListN.{length}
 use lib.Ieee.{Float}
+use Rattle.sizes.specs.Sizes.{lengthsNo}
+use Rattle.sizes.proofs.Laws.{refuses}
 use Rattle.shape.specs.Shape.{shapeNo}
 use Rattle.frame.specs.declared.Booked.{Booked}
 use Rattle.frame.specs.declared.Totals.{Totals}
@@ -21,7 +23,7 @@ use Rattle.inplace.specs.declared.Closed.{Closed}
 use Rattle.inplace.specs.InPlace.{stateOf}
 use Rattle.extended_in_place.specs.Updated.{Updated}
 use Rattle.extended_in_place.proofs.Kept.{used-kept}
-use Rattle.extended_flat.specs.Flat.{usedIn, totalsIn, countersOf, stateIn, wholeOf, lengthsNo, answerOf, runWith, Checked, Answered}
+use Rattle.extended_flat.specs.Flat.{usedIn, totalsIn, countersOf, stateIn, wholeOf, answerOf, runWith, Checked, Answered}
 
 -- ---- a table and its totals
 module _ (run : List ℤ) (totals : Totals) (gtIds : List ℤ) (gt : List Float) (predIds : List ℤ) (pred : List Float) (threshold : Float) where
@@ -39,14 +41,6 @@ module _ (run : List ℤ) (totals : Totals) (gtIds : List ℤ) (gt : List Float)
       }
 
 -- ---- lent numbers
-two-or-three : (b : Bool) → eqb (cond b 2 3) 0 ≡ false
-two-or-three true = refl
-two-or-three false = refl
-
-lengths-refuse : (a b c d : ℕ) → eqb (lengthsNo a b c d) 0 ≡ false
-unfolding lengthsNo
-lengths-refuse a b c d = two-or-three (eqb (shapeNo a b c d) 2)
-
 module _ (run counters : List ℤ) (distance : List Float) (gtIds : List ℤ) (gt : List Float) (predIds : List ℤ) (pred : List Float) (threshold : Float) where
   refused : (number : ℕ) → eqb number 0 ≡ false → answerOf run counters distance gtIds gt predIds pred threshold ≡ refusedAt number (stateIn run counters distance)
       → Answered run counters distance gtIds gt predIds pred threshold run counters distance number
@@ -60,9 +54,9 @@ module _ (run counters : List ℤ) (distance : List Float) (gtIds : List ℤ) (g
       }
 
   pub no-state : wholeOf (length run) (length counters) (length distance) ≡ false
-      → Answered run counters distance gtIds gt predIds pred threshold run counters distance (lengthsNo (length gtIds) (length gt) (length predIds) (length pred))
+      → Answered run counters distance gtIds gt predIds pred threshold run counters distance (lengthsNo (shapeNo (length gtIds) (length gt) (length predIds) (length pred)))
   unfolding answerOf
-  no-state e = refused _ (lengths-refuse (length gtIds) (length gt) (length predIds) (length pred)) (rw e)
+  no-state e = refused _ (refuses (shapeNo (length gtIds) (length gt) (length predIds) (length pred))) (rw e)
 
   module _ (w : wholeOf (length run) (length counters) (length distance) ≡ true) where
     pub negative : nonNeg (usedIn counters) ≡ false → Answered run counters distance gtIds gt predIds pred threshold run counters distance 1

@@ -8,6 +8,7 @@ use lib.IntN.{ℤ, pos, natAbs}
 use lib.Signed.{nonNeg}
 use lib.ListN.{length, getD}
 use lib.Ieee.{Float, nan}
+use Rattle.sizes.specs.Sizes.{lengthsNo}
 use Rattle.shape.specs.Shape.{shapeNo}
 use Rattle.pairing.specs.declared.Pairing.{Pairing}
 use Rattle.rows.specs.declared.ExtendedMOTAccumulator.{ExtendedMOTAccumulator}
@@ -47,17 +48,13 @@ stateIn run counters distance = stateOf run (totalsIn counters distance)
 unfoldable pub wholeOf : ℕ → ℕ → ℕ → Bool
 wholeOf run counters distance = eqb run 2304 && (eqb counters 7 && eqb distance 1)
 
--- lent runs of another length are no state: 3, and the frame's 2 before it
-unfoldable pub lengthsNo : ℕ → ℕ → ℕ → ℕ → ℕ
-lengthsNo gtIds gt predIds pred = cond (eqb (shapeNo gtIds gt predIds pred) 2) 2 3
-
 -- ---- the answer: a number, and the state; beside a refusal the one that came
 -- a negative used count is a state that isn't sound
 unfoldable pub answerOf : List ℤ → List ℤ → List Float → List ℤ → List Float → List ℤ → List Float → Float → Booked
 answerOf run counters distance gtIds gt predIds pred threshold =
     cond (wholeOf (length run) (length counters) (length distance))
     (cond (nonNeg (usedIn counters)) (updateOf (stateIn run counters distance) gtIds gt predIds pred threshold) (refusedAt 1 (stateIn run counters distance)))
-    (refusedAt (lengthsNo (length gtIds) (length gt) (length predIds) (length pred)) (stateIn run counters distance))
+    (refusedAt (lengthsNo (shapeNo (length gtIds) (length gt) (length predIds) (length pred))) (stateIn run counters distance))
 
 -- the run after a frame with a pairing: written at 0, number by number what it was beside a refusal
 abbrev pub runWith : ℕ → List ℤ → Totals → List ℤ → List ℤ → Pairing → List ℤ

@@ -6,14 +6,14 @@ ghost use mathlib.Core.Path.{_≡_};
 ghost use mathlib.Core.Bool.{true};
 ghost use mathlib.Core.List.{[], _∷_};
 ghost use Prim.Native.Nat.{_≤_};
-ghost use lib.IntN.{pos, natAbs};
+ghost use lib.IntN.{pos};
 ghost use lib.Signed.{nonNeg};
 ghost use lib.ListN.{length, take, getD};
 ghost use Rattle.slots.specs.Slots.{countsSound, soundOf};
 ghost use Rattle.columns.specs.Columns.{slotsOf};
 ghost use Rattle.frame.specs.Frame.{totalsSound, soundState, stateWith};
 ghost use Rattle.inplace.specs.InPlace.{stateOf};
-ghost use Rattle.extended_flat.specs.Flat.{totalsIn, countersOf, wholeOf, lengthsNo, Checked, Answered};
+ghost use Rattle.extended_flat.specs.Flat.{totalsIn, countersOf, wholeOf, Checked, Answered};
 
 // Whether no slot in use has a negative count.
 fn counts_sound(run: &[i32], used: usize) -> bool
@@ -103,20 +103,12 @@ fn update_checked(
     )
 }
 
-// A count that is not negative.
-fn size(n: i32) -> usize
-    requires { ⌜ nonNeg n ≡ true ⌝ }
-    ensures { λ r. ⌜ r ≡ natAbs n ⌝ }
-{
-    n as usize
-}
-
 // The totals that seven counters and a distance stand for.
 fn totals_in(counters: &[i32], distance: &[f64]) -> Totals
     requires { ⌜ (length (now counters) ≡ 7) × (length (now distance) ≡ 1) × (nonNeg (getD (now counters) 0 (pos 0)) ≡ true) ⌝ }
     ensures { λ r. ⌜ r ≡ totalsIn (now (counters .entry)) (now (distance .entry)) ⌝ }
 {
-    let used = size(counters[0]);
+    let used = sizes::size(counters[0]);
     Totals {
         used: used,
         frame_id: counters[1],
@@ -156,16 +148,6 @@ fn whole(run: usize, counters: usize, distance: usize) -> bool
     ensures { λ r. ⌜ r ≡ wholeOf run counters distance ⌝ }
 {
     frame::all_three(run == 2304, counters == 7, distance == 1)
-}
-
-// 3 for a lent state of another length, and 2 before it.
-fn lengths_no(gt_ids: usize, gt: usize, pred_ids: usize, pred: usize) -> u32
-    ensures { λ r. ⌜ r ≡ lengthsNo «gt_ids» gt «pred_ids» pred ⌝ }
-{
-    if shape::shape_no(gt_ids, gt, pred_ids, pred) == 2 {
-        return 2;
-    }
-    3
 }
 
 // The update of lent runs that are as long as a state's.
@@ -218,12 +200,13 @@ pub fn update(
     ensures { λ r. ⌜ Answered (now (run .entry)) (now (counters .entry)) (now (distance .entry)) (now («gt_ids» .entry)) (now («gt_bboxes» .entry)) (now («pred_ids» .entry)) (now («pred_bboxes» .entry)) threshold (now (run .exit)) (now (counters .exit)) (now (distance .exit)) r ⌝ }
 {
     if !whole(run.len(), counters.len(), distance.len()) {
-        return lengths_no(
+        let shape = shape::shape_no(
             gt_ids.len(),
             gt_bboxes.len(),
             pred_ids.len(),
             pred_bboxes.len(),
         );
+        return sizes::lengths_no(shape);
     }
     update_whole(
         run,

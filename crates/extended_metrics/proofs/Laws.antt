@@ -6,13 +6,12 @@ use Prim.Native.Nat.{ℕ, zero, suc, _+_, _*_, _<_, _≤_}
 use native.Mathlib.Omega.{arith}
 use native.Mathlib.Numerals.{add-one}
 use borrow.Author.Tests.{leb-true, le-leb, lt-leb}
-use lib.Dec.{T}
 use lib.IntN.{ℤ, pos, negsuc, natAbs}
 use lib.Signed.{nonNeg}
 use lib.ListN.{length, getD, take}
 use lib.Seq.{getD-take, length-take-le}
-use mir.Syntax.{w32, w64}
-use mir.Val.{SFits, Fits, toZ}
+use mir.Syntax.{w32}
+use mir.Val.{SFits, toZ}
 use mir.Facts.{toZ-ofZ}
 use Rattle.counts.specs.Counts.{fits}
 use Rattle.lifecycle.specs.declared.TrackLifecycle.{TrackLifecycle}
@@ -33,14 +32,6 @@ both true b h = (refl, h)
 both false b h = absurd (true≢false (sym h))
 
 -- ---- a count that is not negative
-pub cast-size : (z : ℤ) → nonNeg z ≡ true → SFits w32 z → T (nonNeg z) × Fits w64 (natAbs z)
-cast-size (pos n) t h = (tt, (let l : n < 2147483648 = h .sfits in record { fits = omega arith }))
-cast-size (negsuc n) t h = absurd (true≢false (sym t))
-
-pub size-few : (z : ℤ) → nonNeg z ≡ true → SFits w32 z → natAbs z ≤ 2147483647
-size-few (pos n) t h = let l : n < 2147483648 = h .sfits in omega arith
-size-few (negsuc n) t h = absurd (true≢false (sym t))
-
 -- so that the sum of sizes is the sum of the counts
 pub size-is : (z : ℤ) → nonNeg z ≡ true → pos (natAbs z) ≡ z
 size-is (pos n) t = refl

@@ -7,7 +7,7 @@ use slots::Slot;
 ghost use mathlib.Core.Path.{_≡_};
 ghost use mathlib.Core.Bool.{true};
 ghost use Prim.Native.Nat.{_+_, _*_, _≤_};
-ghost use lib.IntN.{pos, natAbs};
+ghost use lib.IntN.{pos};
 ghost use lib.ListN.{take};
 ghost use lib.Signed.{nonNeg};
 ghost use Rattle.slots.specs.Slots.{countsSound};
@@ -28,14 +28,6 @@ pub struct Tally {
     pub partially: usize,
     pub lost: usize,
     pub fragmentations: usize,
-}
-
-// A count that is not negative. (Wider than an i32, so that the sum of 256 of them can be tested.)
-fn size(n: i32) -> usize
-    requires { ⌜ nonNeg n ≡ true ⌝ }
-    ensures { λ r. ⌜ (r ≡ natAbs n) × (r ≤ 2147483647) ⌝ }
-{
-    n as usize
 }
 
 fn of_class(class: Class) -> Tally
@@ -69,7 +61,7 @@ fn added(t: Tally, it: TrackLifecycle, k: usize) -> Tally
     ensures { λ r. ⌜ (r ≡ addedOf t it) × Below r (k + 1) ⌝ }
 {
     let c = of_class(lifecycle::class_of(it.share()));
-    let more = size(it.fragmentations);
+    let more = sizes::size(it.fragmentations);
     Tally {
         tracked: t.tracked + c.tracked,
         partially: t.partially + c.partially,

@@ -195,7 +195,7 @@ pub fn book_frame(
     ensures { λ r. ⌜ r ≡ frameOf s (rowAt (now («gt_ids» .entry)) (now («pred_ids» .entry)) (now («pair_rows» .entry)) (now («pair_cols» .entry)) (now («left_rows» .entry)) pairs) pairs lefts extra (length (now («gt_ids» .entry))) distance ⌝ }
 {
     let frame = next_frame(s.frame_id);
-    let t = rows::book_rows(
+    let t = trial::book_rows(
         s,
         gt_ids,
         pred_ids,

@@ -10,7 +10,7 @@ use Rattle.slots.specs.Slots.{noSlot}
 use Rattle.columns.specs.Columns.{slotOf, cellsAt, slotsOf}
 use Rattle.columns.proofs.Laws.{slots-long, slot-at}
 use Rattle.rows.specs.Rows.{newState}
-use Rattle.frame.specs.Frame.{newTotals}
+use Rattle.frame.specs.Frame.{stateWith, newTotals}
 use Rattle.inplace.specs.InPlace.{stateOf}
 
 at-replicate : {A : Type 0} (n k : ℕ) (x : A) → getD (replicate n x) k x ≡ x
@@ -32,15 +32,4 @@ zero-slots =
     (λ (i : ℕ) (h : i < length (slotsOf zeros)). slot-at zeros i (omega arith) ∙ (zero-slot i ∙ sym (at-replicate 256 i noSlot)))
 
 pub new-is : stateOf (replicate 2304 (pos 0)) newTotals ≡ newState
-new-is =
-    λ i. record {
-      slots = zero-slots i;
-      used = 0;
-      «frame_id» = pos 0;
-      «num_matches» = pos 0;
-      «num_misses» = pos 0;
-      «num_false_positives» = pos 0;
-      «num_switches» = pos 0;
-      «num_objects» = pos 0;
-      «total_distance» = newState .«total_distance»;
-    }
+new-is = λ i. stateWith (zero-slots i) newTotals

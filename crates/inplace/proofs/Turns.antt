@@ -24,6 +24,7 @@ use Rattle.rows.specs.Rows.{rowSpot, rowStep, withSlot, trialOf, trialAfter}
 use Rattle.rows.proofs.Booking.{row-in, one-more}
 use Rattle.frame.proofs.Finals.{trial-good}
 use Rattle.frame.specs.declared.Totals.{Totals}
+use Rattle.frame.specs.Frame.{stateWith}
 use Rattle.inplace.specs.InPlace.{stateOf, placeOf, before, tableAfter, Logged, undone}
 
 -- the totals with another used count
@@ -43,18 +44,7 @@ usedNow t n =
 -- a slot written in the run is a slot put in the state
 pub with-slot : (run : List ℤ) (t : Totals) (l : length run ≡ 2304) (at : ℕ) (x : Slot) (n : ℕ) → at < 256
     → stateOf (put run 256 at (cellsOf x)) (usedNow t n) ≡ withSlot (stateOf run t) at x n
-with-slot run t l at x n h =
-    λ i. record {
-      slots = put-slot run l at x h i;
-      used = n;
-      «frame_id» = t .«frame_id»;
-      «num_matches» = t .«num_matches»;
-      «num_misses» = t .«num_misses»;
-      «num_false_positives» = t .«num_false_positives»;
-      «num_switches» = t .«num_switches»;
-      «num_objects» = t .«num_objects»;
-      «total_distance» = t .«total_distance»;
-    }
+with-slot run t l at x n h = λ i. stateWith (put-slot run l at x h i) (usedNow t n)
 
 pub in-log : (log : List ℤ) (k : ℕ) → k < 64 → length log ≡ 576 → Within (length log) 64 k
 in-log log k h l = record { inside = h; few = (let w : 64 ≤ 256 = omega arith in w); room = (let w : 9 * 64 ≤ length log = omega arith in w) }

@@ -1,15 +1,17 @@
 // The two matrices over runs of box floats, written row by row.
 // Ported from norfair-rs, internal/motmetrics/iou.rs, which follows py-motmetrics (NOTICE).
 ghost use mathlib.Core.Path.{_≡_};
-ghost use Prim.Native.Nat.{_+_, _*_, _/_, _<_, _≤_};
+ghost use Prim.Native.Nat.{_*_, _/_, _≤_};
 ghost use lib.ListN.{length};
 ghost use Rattle.iou.specs.Boxes.{areaOf};
-ghost use Rattle.matrix.specs.Matrix.{AreasOf, boxAt, anyBad, measuredOf, rowOf, matrixOf, overwrite, shapeNo, roomNo, anyReadBad, distanceMatrixNo, iouMatrixNo, matrixAfter};
+ghost use Rattle.matrix.specs.Matrix.{AreasOf, measuredOf, rowOf, matrixOf, overwrite, distanceMatrixNo, iouMatrixNo, matrixAfter};
 use iou::Box;
 use iou::area;
 use iou::box_distance;
 use iou::box_share;
-use iou::is_bad;
+use matrix_numbers::box_at;
+use matrix_numbers::distance_matrix_number;
+use matrix_numbers::iou_matrix_number;
 
 // Which matrix is written.
 pub enum Measure {
@@ -25,35 +27,6 @@ fn measured(m: Measure, a: Box, area_a: f64, b: Box, area_b: f64) -> f64
         Measure::Away => box_distance(a, area_a, b, area_b),
         Measure::Shared => box_share(a, area_a, b, area_b),
     }
-}
-
-// The box whose four floats start at 4 * i.
-pub fn box_at(run: &[f64], i: usize) -> Box
-    requires { ⌜ i < length (now run) / 4 ⌝ }
-    ensures { λ r. ⌜ r ≡ boxAt (now (run .entry)) i ⌝ }
-{
-    let at = 4 * i;
-    Box {
-        x_min: run[at],
-        y_min: run[at + 1],
-        x_max: run[at + 2],
-        y_max: run[at + 3],
-    }
-}
-
-// Whether one of the boxes is bad.
-fn any_bad(run: &[f64]) -> bool
-    ensures { λ r. ⌜ r ≡ anyBad (now (run .entry)) (length (now (run .entry)) / 4) ⌝ }
-{
-    let n = run.len() / 4;
-    let mut i = 0;
-    while i < n {
-        if is_bad(box_at(run, i)) {
-            return true;
-        }
-        i += 1;
-    }
-    false
 }
 
 // The area of every box of the run, each taken once.
@@ -103,63 +76,6 @@ fn write_rows(m: Measure, gt: &[f64], pred: &[f64], out: &mut [f64])
     }
 }
 
-// The numbers 2 and 3, which go by lengths alone.
-fn shape_number(gt: usize, pred: usize) -> u32
-    ensures { λ r. ⌜ r ≡ shapeNo gt pred ⌝ }
-{
-    if gt / 4 > 64 {
-        return 2;
-    }
-    if pred / 4 > 64 {
-        return 2;
-    }
-    if gt % 4 != 0 {
-        return 3;
-    }
-    if pred % 4 != 0 {
-        return 3;
-    }
-    0
-}
-
-// Whether refusal 4 applies: no box is read where a side is empty.
-fn any_read_bad(gt: &[f64], pred: &[f64]) -> bool
-    ensures { λ r. ⌜ r ≡ anyReadBad (now (gt .entry)) (now (pred .entry)) ⌝ }
-{
-    if gt.len() / 4 == 0 {
-        return false;
-    }
-    if pred.len() / 4 == 0 {
-        return false;
-    }
-    if any_bad(gt) {
-        return true;
-    }
-    any_bad(pred)
-}
-
-// Refusal 6, of the numbers of rows and columns and the places lent.
-fn room_number(rows: usize, cols: usize, places: usize) -> u32
-    requires { ⌜ (rows ≤ 64) × (cols ≤ 64) ⌝ }
-    ensures { λ r. ⌜ r ≡ roomNo rows cols places ⌝ }
-{
-    if places < rows * cols { 6 } else { 0 }
-}
-
-// The number of the distance matrix: the lowest that applies.
-fn distance_matrix_number(gt: &[f64], pred: &[f64], places: usize) -> u32
-    ensures { λ r. ⌜ r ≡ distanceMatrixNo (now (gt .entry)) (now (pred .entry)) places ⌝ }
-{
-    let no = shape_number(gt.len(), pred.len());
-    if no != 0 {
-        return no;
-    }
-    if any_read_bad(gt, pred) {
-        return 4;
-    }
-    room_number(gt.len() / 4, pred.len() / 4, places)
-}
-
 // The distances of every truth box to every predicted box, over the first places of out; the number.
 pub fn compute_iou_distance_matrix(gt_bboxes: &[f64], pred_bboxes: &[f64], out: &mut [f64]) -> u32
     ensures number { λ r. ⌜ r ≡ distanceMatrixNo (now («gt_bboxes» .entry)) (now («pred_bboxes» .entry)) (length (now (out .entry))) ⌝ }
@@ -171,17 +87,6 @@ pub fn compute_iou_distance_matrix(gt_bboxes: &[f64], pred_bboxes: &[f64], out: 
     }
     write_rows(Measure::Away, gt_bboxes, pred_bboxes, out);
     0
-}
-
-// The number of iou_matrix, which refuses no box.
-fn iou_matrix_number(gt: &[f64], pred: &[f64], places: usize) -> u32
-    ensures { λ r. ⌜ r ≡ iouMatrixNo (now (gt .entry)) (now (pred .entry)) places ⌝ }
-{
-    let no = shape_number(gt.len(), pred.len());
-    if no != 0 {
-        return no;
-    }
-    room_number(gt.len() / 4, pred.len() / 4, places)
 }
 
 // The shares of every box of the first run with every box of the second, over the first places of out; the number.

@@ -1,16 +1,17 @@
 -- The update of lent numbers, by the ways that the code goes. Assumes nothing.
 use mathlib.Core.Path.{_≡_, refl, sym, ap, _∙_}
-use mathlib.Core.Bool.{Bool, true, false, cond}
+use mathlib.Core.Bool.{true, false}
 use mathlib.Core.List.{List, [], _∷_}
 use mathlib.Core.Logic.{⊎-elim}
-use Prim.Native.Nat.{ℕ, _≤_}
-use native.Mathlib.Omega.{arith}
+use Prim.Native.Nat.{ℕ}
 use borrow.Author.Tests.{ne-eqb, eqb-true}
 use lib.Dec.{eqb}
 use lib.IntN.{ℤ}
-use lib.ListN.{length, set}
+use lib.ListN.{length}
 use lib.Ieee.{Float}
 use Rattle.square.proofs.Truth.{dec, and-left, and-right}
+use Rattle.sizes.specs.Sizes.{Long, logAndTable, lengthsNo}
+use Rattle.sizes.proofs.Laws.{long as log-long, refuses}
 use Rattle.greedy.specs.declared.Pairing.{Pairing}
 use Rattle.matrix.specs.Matrix.{matrixOf}
 use Rattle.matrix.specs.declared.Measure.the-variants.{Shared}
@@ -24,23 +25,14 @@ use Rattle.metrics_update.proofs.Steps as steps
 use Rattle.metrics_in_place.specs.declared.Used.{Used}
 use Rattle.metrics_in_place.specs.declared.Closed.{Closed}
 use Rattle.metrics_in_place.specs.InPlace.{Runs, runsOf, stateOf, Within, Updated}
-use Rattle.metrics_flat.specs.Flat.{usedIn, stateIn, Long, wholeOf, lengthsNo, answerOf, runsWith, Checked, countsOf, Answered}
+use Rattle.metrics_flat.specs.Flat.{usedIn, stateIn, wholeOf, answerOf, runsWith, Checked, countsOf, Answered}
 
 -- ---- the lengths
-pub long : (numbers distances table hypotheses used : ℕ) → wholeOf numbers distances table hypotheses used ≡ true → Long numbers distances table hypotheses × (used ≡ 3)
+pub long : (numbers distances table hypotheses used : ℕ) → wholeOf numbers distances table hypotheses used ≡ true → Long numbers distances table × (hypotheses ≡ 1024) × (used ≡ 3)
 unfolding wholeOf
 long numbers distances table hypotheses used e =
-    let h = and-right (eqb numbers 4096) _ e in
-    let g = and-right (eqb distances 1024) _ h in
-    let f = and-right (eqb table 768) _ g in (
-      record {
-        four-columns = eqb-true numbers 4096 (and-left (eqb numbers 4096) _ e);
-        one-column = eqb-true distances 1024 (and-left (eqb distances 1024) _ h);
-        three-columns = eqb-true table 768 (and-left (eqb table 768) _ g);
-        ids = eqb-true hypotheses 1024 (and-left (eqb hypotheses 1024) _ f);
-      },
-      eqb-true used 3 (and-right (eqb hypotheses 1024) _ f),
-    )
+    let h = and-right (logAndTable numbers distances table) _ e in
+    (log-long numbers distances table (and-left (logAndTable numbers distances table) _ e), eqb-true hypotheses 1024 (and-left (eqb hypotheses 1024) _ h), eqb-true used 3 (and-right (eqb hypotheses 1024) _ h))
 
 -- ---- beside a refusal the state is the one that came
 abbrev Keeps : MOTAccumulator → After → Type 0
@@ -72,14 +64,14 @@ module _ (x : Runs) (used : Used) where
   unfolding soundState
   table-alone = refl
 
-  pub within : Long (length (x .numbers)) (length (x .distances)) (length (x .table)) (length (x .hypotheses)) → soundState (stateOf (runsOf [] [] (x .table) (x .hypotheses)) used) ≡ true → Within x used
+  pub within : Long (length (x .numbers)) (length (x .distances)) (length (x .table)) × (length (x .hypotheses) ≡ 1024) → soundState (stateOf (runsOf [] [] (x .table) (x .hypotheses)) used) ≡ true → Within x used
   within l e =
       let u = steps.within (stateOf x used) (sym table-alone ∙ e) in
       record {
-        numbers = l .four-columns;
-        distances = l .one-column;
-        table = l .three-columns;
-        hypotheses = l .ids;
+        numbers = l .0 .four-columns;
+        distances = l .0 .one-column;
+        table = l .0 .three-columns;
+        hypotheses = l .1;
         few-events = u .log;
         few-truths = u .truths;
         few-hypotheses = u .hypotheses;
@@ -96,27 +88,12 @@ module _ (x : Runs) (used : Used) where
     sound e y r u = record { booked = u .state ∙ sym (rw (sym table-alone ∙ e) refl); written = u .runs }
 
 -- ---- lent numbers
-pub three-written : (l : List ℕ) (a b c : ℕ) → length l ≡ 3 → set (set (set l 0 a) 1 b) 2 c ≡ a ∷ b ∷ c ∷ []
-three-written (x ∷ y ∷ z ∷ []) a b c e = refl
-three-written [] a b c e = absurd (omega arith)
-three-written (x ∷ []) a b c e = absurd (omega arith)
-three-written (x ∷ y ∷ []) a b c e = absurd (omega arith)
-three-written (x ∷ y ∷ z ∷ w ∷ l) a b c e = absurd (omega arith)
-
-two-or-three : (b : Bool) → eqb (cond b 2 3) 0 ≡ false
-two-or-three true = refl
-two-or-three false = refl
-
-lengths-refuse : (a b c d : ℕ) → eqb (lengthsNo a b c d) 0 ≡ false
-unfolding lengthsNo
-lengths-refuse a b c d = two-or-three (eqb (shapeNo a b c d) 2)
-
 module _ (x : Runs) (used : List ℕ) (frame : ℤ) (truths hypotheses : List ℤ) (gt hyp : List Float) (threshold : Float) where
   pub no-state : wholeOf (length (x .numbers)) (length (x .distances)) (length (x .table)) (length (x .hypotheses)) (length used) ≡ false
-      → Answered x used frame truths hypotheses gt hyp threshold x used (lengthsNo (length truths) (length gt) (length hypotheses) (length hyp))
+      → Answered x used frame truths hypotheses gt hyp threshold x used (lengthsNo (shapeNo (length truths) (length gt) (length hypotheses) (length hyp)))
   unfolding answerOf
   no-state e =
-      let z = lengths-refuse (length truths) (length gt) (length hypotheses) (length hyp) in
+      let z = refuses (shapeNo (length truths) (length gt) (length hypotheses) (length hyp)) in
       record { number-is = sym (rw e refl); state-is = sym (rw e refl); runs-are = sym (rw z refl); used-are = sym (rw z refl) }
 
   module _ (w : wholeOf (length (x .numbers)) (length (x .distances)) (length (x .table)) (length (x .hypotheses)) (length used) ≡ true) (y : Runs) (r : Closed)

@@ -8,6 +8,7 @@ use lib.Dec.{eqb}
 use lib.IntN.{ℤ}
 use lib.ListN.{length, getD}
 use lib.Ieee.{Float}
+use Rattle.sizes.specs.Sizes.{logAndTable, lengthsNo}
 use Rattle.shape.specs.Shape.{shapeNo}
 use Rattle.metrics.specs.declared.MOTAccumulator.{MOTAccumulator}
 use Rattle.metrics_update.specs.declared.Updated.{Updated}
@@ -26,25 +27,15 @@ abbrev pub stateIn : Runs → List ℕ → MOTAccumulator
 stateIn x used = stateOf x (usedIn used)
 
 -- ---- the lengths
-pub record Long (numbers distances table hypotheses : ℕ) : Type 0 where
-  pub four-columns : numbers ≡ 4096
-  pub one-column : distances ≡ 1024
-  pub three-columns : table ≡ 768
-  pub ids : hypotheses ≡ 1024
-
 unfoldable pub wholeOf : ℕ → ℕ → ℕ → ℕ → ℕ → Bool
-wholeOf numbers distances table hypotheses used = eqb numbers 4096 && (eqb distances 1024 && (eqb table 768 && (eqb hypotheses 1024 && eqb used 3)))
-
--- lent runs of another length are no state: 3, and the frame's 2 before it
-unfoldable pub lengthsNo : ℕ → ℕ → ℕ → ℕ → ℕ
-lengthsNo truths gt hypotheses hyp = cond (eqb (shapeNo truths gt hypotheses hyp) 2) 2 3
+wholeOf numbers distances table hypotheses used = logAndTable numbers distances table && (eqb hypotheses 1024 && eqb used 3)
 
 -- ---- the answer: a number, and the state; beside a refusal the one that came
 unfoldable pub answerOf : Runs → List ℕ → ℤ → List ℤ → List ℤ → List Float → List Float → Float → Updated
 answerOf x used frame truths hypotheses gt hyp threshold =
     cond (wholeOf (length (x .numbers)) (length (x .distances)) (length (x .table)) (length (x .hypotheses)) (length used))
     (updateOf (stateIn x used) frame truths hypotheses gt hyp threshold)
-    (refusedAt (lengthsNo (length truths) (length gt) (length hypotheses) (length hyp)) (stateIn x used))
+    (refusedAt (lengthsNo (shapeNo (length truths) (length gt) (length hypotheses) (length hyp))) (stateIn x used))
 
 -- every number of the runs afterwards: written at 0, what it was beside a refusal
 abbrev pub runsWith : ℕ → Runs → Used → ℤ → List ℤ → List ℤ → List Float → List Float → Float → Runs

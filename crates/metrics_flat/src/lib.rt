@@ -6,9 +6,10 @@ ghost use mathlib.Core.Path.{_≡_};
 ghost use mathlib.Core.Bool.{true};
 ghost use mathlib.Core.List.{[]};
 ghost use lib.ListN.{length};
+ghost use Rattle.sizes.specs.Sizes.{Long};
 ghost use Rattle.metrics.specs.State.{soundState};
 ghost use Rattle.metrics_in_place.specs.InPlace.{runsOf, stateOf};
-ghost use Rattle.metrics_flat.specs.Flat.{wholeOf, lengthsNo, Long, Checked, Answered};
+ghost use Rattle.metrics_flat.specs.Flat.{wholeOf, Checked, Answered};
 
 // Whether a state that is handed in is one that refusal 1 lets by: of the log its used count alone.
 fn sound(table: &[i32], hypotheses: &[i32], used: Used) -> bool
@@ -19,17 +20,11 @@ fn sound(table: &[i32], hypotheses: &[i32], used: Used) -> bool
         return false;
     }
     let truths = used.truths;
-    if truths > 256 {
-        return false;
-    }
-    if !ids::distinct(&table[..truths]) {
+    if !seen::sound_up_to(&table[..256], truths, 256) {
         return false;
     }
     let known = used.hypotheses;
-    if known > 1024 {
-        return false;
-    }
-    ids::distinct(&hypotheses[..known])
+    seen::sound_up_to(hypotheses, known, 1024)
 }
 
 // The update of any runs and used counts: the lowest number that applies, and the used counts.
@@ -46,7 +41,7 @@ fn update_checked(
     hyp_boxes: &[f64],
     iou_threshold: f64,
 ) -> Closed
-    requires { ⌜ Long (length (now numbers)) (length (now «log_distances»)) (length (now table)) (length (now hypotheses)) ⌝ }
+    requires { ⌜ Long (length (now numbers)) (length (now «log_distances»)) (length (now table)) × (length (now hypotheses) ≡ 1024) ⌝ }
     ensures { λ r. ⌜ Checked (runsOf (now (numbers .entry)) (now («log_distances» .entry)) (now (table .entry)) (now (hypotheses .entry))) used frame (now («gt_ids» .entry)) (now («hyp_ids» .entry)) (now («gt_boxes» .entry)) (now («hyp_boxes» .entry)) «iou_threshold» (runsOf (now (numbers .exit)) (now («log_distances» .exit)) (now (table .exit)) (now (hypotheses .exit))) r ⌝ }
 {
     if !sound(&table[..], &hypotheses[..], used) {
@@ -74,29 +69,13 @@ fn update_checked(
 fn whole(numbers: usize, log_distances: usize, table: usize, hypotheses: usize, used: usize) -> bool
     ensures { λ r. ⌜ r ≡ wholeOf numbers «log_distances» table hypotheses used ⌝ }
 {
-    if numbers != 4096 {
-        return false;
-    }
-    if log_distances != 1024 {
-        return false;
-    }
-    if table != 768 {
+    if !sizes::log_and_table(numbers, log_distances, table) {
         return false;
     }
     if hypotheses != 1024 {
         return false;
     }
     used == 3
-}
-
-// 3 for a lent state of another length, and 2 before it.
-fn lengths_no(gt_ids: usize, gt: usize, hyp_ids: usize, hyp: usize) -> u32
-    ensures { λ r. ⌜ r ≡ lengthsNo «gt_ids» gt «hyp_ids» hyp ⌝ }
-{
-    if shape::shape_no(gt_ids, gt, hyp_ids, hyp) == 2 {
-        return 2;
-    }
-    3
 }
 
 // The update of lent runs that are as long as a state's.
@@ -168,7 +147,8 @@ pub fn update(
         hypotheses.len(),
         used.len(),
     ) {
-        return lengths_no(gt_ids.len(), gt_boxes.len(), hyp_ids.len(), hyp_boxes.len());
+        let shape = shape::shape_no(gt_ids.len(), gt_boxes.len(), hyp_ids.len(), hyp_boxes.len());
+        return sizes::lengths_no(shape);
     }
     update_whole(
         numbers,

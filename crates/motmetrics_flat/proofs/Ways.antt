@@ -1,63 +1,30 @@
 -- The update of lent numbers, by the ways that the code goes. Assumes nothing.
 use mathlib.Core.Path.{_≡_, refl, sym, ap, _∙_}
-use mathlib.Core.Bool.{Bool, true, false, cond}
+use mathlib.Core.Bool.{true, false}
 use mathlib.Core.List.{List, [], _∷_}
-use mathlib.Core.Logic.{⊎-elim}
-use Prim.Native.Nat.{ℕ, _≤_}
-use native.Mathlib.Omega.{arith}
+use Prim.Native.Nat.{ℕ}
 use borrow.Author.Tests.{ne-eqb, eqb-true}
-use lib.Dec.{eqb}
 use lib.IntN.{ℤ}
-use lib.ListN.{length, set}
+use lib.ListN.{length}
 use lib.Ieee.{Float}
-use Rattle.square.proofs.Truth.{dec, and-left, and-right}
-use Rattle.greedy.specs.declared.Pairing.{Pairing}
-use Rattle.greedy_pairs.specs.Pairs.{byDistance}
-use Rattle.motmetrics.specs.declared.MOTAccumulator.{MOTAccumulator}
+use Rattle.square.proofs.Truth.{and-left, and-right}
+use Rattle.sizes.specs.Sizes.{Long, logAndTable, lengthsNo}
+use Rattle.sizes.proofs.Laws.{long as log-long, refuses}
 use Rattle.motmetrics.specs.State.{soundState}
 use Rattle.motmetrics_update.specs.declared.Updated.{Updated as After}
-use Rattle.motmetrics_update.specs.Update.{refusedAt, shapeNo, bookOf, frameAfter, updateOf}
+use Rattle.motmetrics_update.specs.Update.{shapeNo, updateOf}
 use Rattle.motmetrics_update.proofs.Steps as steps
+use Rattle.motmetrics_update.proofs.Kept.{refused-keeps}
 use Rattle.motmetrics_in_place.specs.declared.Used.{Used}
 use Rattle.motmetrics_in_place.specs.declared.Closed.{Closed}
 use Rattle.motmetrics_in_place.specs.Updated.{Runs, runsOf, stateOf, Within, Updated}
-use Rattle.motmetrics_flat.specs.Flat.{usedIn, stateIn, Long, wholeOf, lengthsNo, answerOf, runsWith, Checked, countsOf, Answered}
+use Rattle.motmetrics_flat.specs.Flat.{usedIn, stateIn, wholeOf, answerOf, runsWith, Checked, countsOf, Answered}
 
 -- ---- the lengths
 pub long : (numbers distances table used : ℕ) → wholeOf numbers distances table used ≡ true → Long numbers distances table × (used ≡ 2)
 unfolding wholeOf
 long numbers distances table used e =
-    let h = and-right (eqb numbers 4096) _ e in
-    let g = and-right (eqb distances 1024) _ h in (
-      record {
-        four-columns = eqb-true numbers 4096 (and-left (eqb numbers 4096) _ e);
-        one-column = eqb-true distances 1024 (and-left (eqb distances 1024) _ h);
-        three-columns = eqb-true table 768 (and-left (eqb table 768) _ g);
-      },
-      eqb-true used 2 (and-right (eqb table 768) _ g),
-    )
-
--- ---- beside a refusal the state is the one that came
-abbrev Keeps : MOTAccumulator → After → Type 0
-Keeps s u = (u .number ≡ 0 → ⊥) → u .state ≡ s
-
-module _ (s : MOTAccumulator) (frame : ℤ) (objects hypotheses : List ℤ) (distances : List Float) where
-  book-keeps : (p : Pairing) → Keeps s (bookOf s frame objects hypotheses distances p)
-  unfolding bookOf
-  book-keeps p x = rw (ne-eqb _ 0 x) refl
-
-  frame-keeps : Keeps s (frameAfter s frame objects hypotheses distances)
-  unfolding frameAfter
-  frame-keeps =
-      let number = shapeNo (length objects) (length hypotheses) (length distances) in
-      ⊎-elim
-      (λ (e : eqb number 0 ≡ true). rw e (book-keeps (byDistance distances (length hypotheses))))
-      (λ (e : eqb number 0 ≡ false). rw e (λ x. refl))
-      (dec (eqb number 0))
-
-  pub refused-keeps : Keeps s (updateOf s frame objects hypotheses distances)
-  unfolding updateOf
-  refused-keeps = ⊎-elim (λ (e : soundState s ≡ true). rw e frame-keeps) (λ (e : soundState s ≡ false). rw e (λ x. refl)) (dec (soundState s))
+    (log-long numbers distances table (and-left (logAndTable numbers distances table) _ e), eqb-true used 2 (and-right (logAndTable numbers distances table) _ e))
 
 -- ---- runs and used counts
 module _ (x : Runs) (used : Used) where
@@ -81,26 +48,12 @@ module _ (x : Runs) (used : Used) where
     sound e y r u = record { booked = u .booked ∙ steps.sound (stateOf x used) frame objects hypotheses distances (sym table-alone ∙ e); written = u .written }
 
 -- ---- lent numbers
-pub two-written : (l : List ℕ) (a b : ℕ) → length l ≡ 2 → set (set l 0 a) 1 b ≡ a ∷ b ∷ []
-two-written (x ∷ y ∷ []) a b e = refl
-two-written [] a b e = absurd (omega arith)
-two-written (x ∷ []) a b e = absurd (omega arith)
-two-written (x ∷ y ∷ z ∷ l) a b e = absurd (omega arith)
-
-two-or-three : (b : Bool) → eqb (cond b 2 3) 0 ≡ false
-two-or-three true = refl
-two-or-three false = refl
-
-lengths-refuse : (a b c : ℕ) → eqb (lengthsNo a b c) 0 ≡ false
-unfolding lengthsNo
-lengths-refuse a b c = two-or-three (eqb (shapeNo a b c) 2)
-
 module _ (x : Runs) (used : List ℕ) (frame : ℤ) (objects hypotheses : List ℤ) (distances : List Float) where
   pub no-state : wholeOf (length (x .numbers)) (length (x .distances)) (length (x .table)) (length used) ≡ false
-      → Answered x used frame objects hypotheses distances x used (lengthsNo (length objects) (length hypotheses) (length distances))
+      → Answered x used frame objects hypotheses distances x used (lengthsNo (shapeNo (length objects) (length hypotheses) (length distances)))
   unfolding answerOf
   no-state e =
-      let z = lengths-refuse (length objects) (length hypotheses) (length distances) in
+      let z = refuses (shapeNo (length objects) (length hypotheses) (length distances)) in
       record { number-is = sym (rw e refl); state-is = sym (rw e refl); runs-are = sym (rw z refl); used-are = sym (rw z refl) }
 
   module _ (w : wholeOf (length (x .numbers)) (length (x .distances)) (length (x .table)) (length used) ≡ true) (y : Runs) (r : Closed)

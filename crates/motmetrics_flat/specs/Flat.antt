@@ -8,6 +8,7 @@ use lib.Dec.{eqb}
 use lib.IntN.{ℤ}
 use lib.ListN.{length, getD}
 use lib.Ieee.{Float}
+use Rattle.sizes.specs.Sizes.{logAndTable, lengthsNo}
 use Rattle.greedy_pairs.specs.Pairs.{byDistance}
 use Rattle.motmetrics.specs.declared.MOTAccumulator.{MOTAccumulator}
 use Rattle.motmetrics_update.specs.declared.Updated.{Updated}
@@ -26,24 +27,15 @@ abbrev pub stateIn : Runs → List ℕ → MOTAccumulator
 stateIn x used = stateOf x (usedIn used)
 
 -- ---- the lengths
-pub record Long (numbers distances table : ℕ) : Type 0 where
-  pub four-columns : numbers ≡ 4096
-  pub one-column : distances ≡ 1024
-  pub three-columns : table ≡ 768
-
 unfoldable pub wholeOf : ℕ → ℕ → ℕ → ℕ → Bool
-wholeOf numbers distances table used = eqb numbers 4096 && (eqb distances 1024 && (eqb table 768 && eqb used 2))
-
--- lent runs of another length are no state: 3, and the frame's 2 before it
-unfoldable pub lengthsNo : ℕ → ℕ → ℕ → ℕ
-lengthsNo rows columns size = cond (eqb (shapeNo rows columns size) 2) 2 3
+wholeOf numbers distances table used = logAndTable numbers distances table && eqb used 2
 
 -- ---- the answer: a number, and the state; beside a refusal the one that came
 unfoldable pub answerOf : Runs → List ℕ → ℤ → List ℤ → List ℤ → List Float → Updated
 answerOf x used frame objects hypotheses distances =
     cond (wholeOf (length (x .numbers)) (length (x .distances)) (length (x .table)) (length used))
     (updateOf (stateIn x used) frame objects hypotheses distances)
-    (refusedAt (lengthsNo (length objects) (length hypotheses) (length distances)) (stateIn x used))
+    (refusedAt (lengthsNo (shapeNo (length objects) (length hypotheses) (length distances))) (stateIn x used))
 
 -- every number of the runs afterwards: written at 0, what it was beside a refusal
 abbrev pub runsWith : ℕ → Runs → Used → ℤ → List ℤ → List ℤ → List Float → Runs

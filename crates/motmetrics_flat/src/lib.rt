@@ -6,9 +6,10 @@ ghost use mathlib.Core.Path.{_≡_};
 ghost use mathlib.Core.Bool.{true};
 ghost use mathlib.Core.List.{[]};
 ghost use lib.ListN.{length};
+ghost use Rattle.sizes.specs.Sizes.{Long};
 ghost use Rattle.motmetrics.specs.State.{soundState};
 ghost use Rattle.motmetrics_in_place.specs.Updated.{runsOf, stateOf};
-ghost use Rattle.motmetrics_flat.specs.Flat.{wholeOf, lengthsNo, Long, Checked, Answered};
+ghost use Rattle.motmetrics_flat.specs.Flat.{wholeOf, Checked, Answered};
 
 // Whether a state that is handed in is one that refusal 1 lets by: of the log its used count alone.
 fn sound(table: &[i32], used: Used) -> bool
@@ -19,10 +20,7 @@ fn sound(table: &[i32], used: Used) -> bool
         return false;
     }
     let truths = used.truths;
-    if truths > 256 {
-        return false;
-    }
-    ids::distinct(&table[..truths])
+    seen::sound_up_to(&table[..256], truths, 256)
 }
 
 // The update of any runs and used counts: the lowest number that applies, and the used counts.
@@ -61,26 +59,10 @@ fn update_checked(
 fn whole(numbers: usize, log_distances: usize, table: usize, used: usize) -> bool
     ensures { λ r. ⌜ r ≡ wholeOf numbers «log_distances» table used ⌝ }
 {
-    if numbers != 4096 {
-        return false;
-    }
-    if log_distances != 1024 {
-        return false;
-    }
-    if table != 768 {
+    if !sizes::log_and_table(numbers, log_distances, table) {
         return false;
     }
     used == 2
-}
-
-// 3 for a lent state of another length, and 2 before it.
-fn lengths_no(rows: usize, columns: usize, size: usize) -> u32
-    ensures { λ r. ⌜ r ≡ lengthsNo rows columns size ⌝ }
-{
-    if motmetrics_update::shape_no(rows, columns, size) == 2 {
-        return 2;
-    }
-    3
 }
 
 // The update of lent runs that are as long as a state's.
@@ -135,7 +117,12 @@ pub fn update(
     ensures { λ r. ⌜ Answered (runsOf (now (numbers .entry)) (now («log_distances» .entry)) (now (table .entry))) (now (used .entry)) «frame_id» (now («object_ids» .entry)) (now («hypothesis_ids» .entry)) (now (distances .entry)) (runsOf (now (numbers .exit)) (now («log_distances» .exit)) (now (table .exit))) (now (used .exit)) r ⌝ }
 {
     if !whole(numbers.len(), log_distances.len(), table.len(), used.len()) {
-        return lengths_no(object_ids.len(), hypothesis_ids.len(), distances.len());
+        let shape = motmetrics_update::shape_no(
+            object_ids.len(),
+            hypothesis_ids.len(),
+            distances.len(),
+        );
+        return sizes::lengths_no(shape);
     }
     update_whole(
         numbers,

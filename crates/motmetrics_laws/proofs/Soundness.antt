@@ -1,4 +1,4 @@
--- A refused frame changes nothing, and a sound state stays sound: so the inner layer may run over what an update left. Assumes nothing.
+-- A sound state stays sound, so the inner layer may run over what an update left. (That a refused one stays as it is, is in motmetrics_update.) Assumes nothing.
 use mathlib.Core.Path.{_≡_, refl, sym, ap, _∙_}
 use mathlib.Core.Bool.{Bool, true, false, cond, _&&_}
 use mathlib.Core.List.{List}
@@ -22,32 +22,8 @@ use Rattle.motmetrics.specs.declared.MOTAccumulator.{MOTAccumulator}
 use Rattle.motmetrics.specs.State.{soundState}
 use Rattle.motmetrics_update.specs.declared.Updated.{Updated}
 use Rattle.motmetrics_update.specs.Update.{refusedAt, closedAt, shapeNo, matchedBy, bookNo, bookOf, frameAfter, updateOf}
+use Rattle.motmetrics_update.proofs.Kept.{closed-keeps}
 
--- ---- REFUSED, NOTHING CHANGED
-closed-keeps : (n : ℕ) (s next : MOTAccumulator) → (n ≡ 0 → ⊥) → closedAt n s next .state ≡ s
-closed-keeps n s next h = rw (ne-eqb n 0 h) refl
-
-module _ (s : MOTAccumulator) (frame : ℤ) (objects hypotheses : List ℤ) (distances : List Float) where
-  book-keeps : (p : Pairing) → (bookOf s frame objects hypotheses distances p .number ≡ 0 → ⊥) → bookOf s frame objects hypotheses distances p .state ≡ s
-  unfolding bookOf
-  book-keeps p h = closed-keeps _ s _ h
-
-  pick-keeps : (b : Bool) (x y : Updated) → ((x .number ≡ 0 → ⊥) → x .state ≡ s) → y .state ≡ s → (cond b x y .number ≡ 0 → ⊥) → cond b x y .state ≡ s
-  pick-keeps true x y f g h = f h
-  pick-keeps false x y f g h = g
-
-  frame-keeps : (frameAfter s frame objects hypotheses distances .number ≡ 0 → ⊥) → frameAfter s frame objects hypotheses distances .state ≡ s
-  unfolding frameAfter
-  frame-keeps h =
-      let number = shapeNo (length objects) (length hypotheses) (length distances) in
-      let p = byDistance distances (length hypotheses) in
-      pick-keeps (eqb number 0) (bookOf s frame objects hypotheses distances p) (refusedAt number s) (book-keeps p) refl h
-
-  pub refused-keeps : (updateOf s frame objects hypotheses distances .number ≡ 0 → ⊥) → updateOf s frame objects hypotheses distances .state ≡ s
-  unfolding updateOf
-  refused-keeps h = pick-keeps (soundState s) (frameAfter s frame objects hypotheses distances) (refusedAt 1 s) frame-keeps refl h
-
--- ---- A SOUND STATE STAYS SOUND
 closed-sound : (n : ℕ) (s next : MOTAccumulator) → soundState s ≡ true → (n ≡ 0 → soundState next ≡ true) → soundState (closedAt n s next .state) ≡ true
 closed-sound zero s next a f = f refl
 closed-sound (suc n) s next a f = ap soundState (closed-keeps (suc n) s next (λ (e : suc n ≡ 0). omega arith)) ∙ a

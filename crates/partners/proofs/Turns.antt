@@ -7,9 +7,12 @@ use native.Mathlib.Nat.{mul-zero, div-lt-iff-lt-mul, mod-lt}
 use native.Mathlib.Omega.{arith}
 use native.Mathlib.Numerals.{add-one}
 use borrow.Author.Tests.{lt-ltb, le-ltb}
-use lib.IntN.{ℤ}
+use lib.IntN.{ℤ, pos}
+use mir.Syntax.{w32}
+use mir.Val.{toZ, ofZ}
 use lib.ListN.{length, take, drop, set, getD, length-append, length-set, length-map, drop-of-length-le, List·getD-map}
 use lib.Seq.{length-take-le, take-set-lt, take-suc-set, drop-set-lt, getD-take, drop-cons}
+use Rattle.counts.proofs.Ids.{Small, back}
 use Rattle.slots.specs.declared.Partner.{Partner}
 use Rattle.ids.specs.declared.Lookup.{Lookup}
 use Rattle.ids.specs.declared.Lookup.the-variants.{At, Absent}
@@ -30,8 +33,22 @@ some-columns : (k n w : ℕ) → k < n * w → 0 < w
 some-columns k n zero h = let z : n * 0 ≡ 0 = mul-zero n in absurd (omega arith)
 some-columns k n (suc w) h = omega arith
 
-pub place-in : (k n w : ℕ) → k < n * w → (0 < w) × (k / w < n) × (k % w < w)
+abbrev pub Inside : ℕ → ℕ → ℕ → Type 0
+Inside k n w = (0 < w) × (k / w < n) × (k % w < w)
+
+pub place-in : (k n w : ℕ) → k < n * w → Inside k n w
 place-in k n w h = let p = some-columns k n w h in (p, div-lt-iff-lt-mul p .1 h, mod-lt k p)
+
+-- the two ids of a pair, read at the row and the column of its place
+abbrev pub Ends : List ℤ → List ℤ → ℕ → ℕ → Type 0
+Ends truths hypotheses place k =
+    (toZ w32 (ofZ w32 (getD truths (place / length hypotheses) (pos 0))) ≡ pairAt truths hypotheses k .truth)
+    × (toZ w32 (ofZ w32 (getD hypotheses (place % length hypotheses) (pos 0))) ≡ pairAt truths hypotheses k .hypothesis)
+
+pub ends-at : (truths hypotheses : List ℤ) (place k : ℕ) → place ≡ k → Small (getD truths (place / length hypotheses) (pos 0)) → Small (getD hypotheses (place % length hypotheses) (pos 0))
+    → Ends truths hypotheses place k
+ends-at truths hypotheses place k e t h =
+    (back _ t ∙ ap (λ (i : ℕ). getD truths (i / length hypotheses) (pos 0)) e, back _ h ∙ ap (λ (i : ℕ). getD hypotheses (i % length hypotheses) (pos 0)) e)
 
 -- ---- one pair
 pub ids-at : (t : Table) (p : Pair) (o : Lookup) → matchAt t p o .ids ≡ seenAt (t .ids) (p .truth) o

@@ -3,16 +3,16 @@
 use mathlib.Core.Bool.{Bool, true, false, cond, _&&_}
 use mathlib.Core.List.{List, [], _∷_, _++_, map}
 use Prim.Native.Nat.{ℕ, _/_, _%_, _-_}
-use lib.Dec.{ltb, leb}
+use lib.Dec.{ltb}
 use lib.IntN.{ℤ, pos}
 use lib.ListN.{length, take, getD, set, replicate}
 use Rattle.slots.specs.declared.Partner.{Partner}
 use Rattle.slots.specs.declared.Partner.the-variants.{Nobody, Id}
 use Rattle.ids.specs.declared.Lookup.{Lookup}
 use Rattle.ids.specs.declared.Lookup.the-variants.{At, Absent}
-use Rattle.ids.specs.Ids.{seekOf, distinctOf}
+use Rattle.ids.specs.Ids.{seekOf}
 use Rattle.slots.specs.Slots.{switches}
-use Rattle.seen.specs.Seen.{over, seenAll}
+use Rattle.seen.specs.Seen.{over, seenAll, idsUpTo}
 use Rattle.partners.specs.declared.Last.{Last}
 use Rattle.partners.specs.declared.Truths.{Truths}
 use Rattle.partners.specs.declared.Booked.{Booked}
@@ -114,7 +114,7 @@ seenTruths t ids = seenWith t (seenAll (tableOf t .ids) ids)
 
 -- ---- refusal 1: a used count within the capacity, and no id twice in the used places
 unfoldable pub idsSound : List ℤ → ℕ → Bool
-idsSound ids used = leb used 256 && distinctOf (take used ids)
+idsSound ids used = idsUpTo 256 ids used
 
 abbrev pub truthsSound : Truths → Bool
 truthsSound t = idsSound (t .ids) (t .used)

@@ -55,10 +55,7 @@ impl Truths {
 fn ids_sound(ids: [i32; 256], used: usize) -> bool
     ensures { λ r. ⌜ r ≡ idsSound ids used ⌝ }
 {
-    if used > 256 {
-        return false;
-    }
-    ids::distinct(&ids[..used])
+    seen::sound_up_to(&ids, used, 256)
 }
 
 pub fn truths_sound(t: Truths) -> bool

@@ -67,5 +67,8 @@ unfoldable pub seenHypotheses : Hypotheses → List ℤ → SeenHypotheses
 seenHypotheses h ids = withSeen h (seenAll (seenBy h) ids)
 
 -- refusal 1: a used count within the capacity, and no id twice in the used places
+abbrev pub idsUpTo : ℕ → List ℤ → ℕ → Bool
+idsUpTo most ids used = leb used most && distinctOf (take used ids)
+
 unfoldable pub hypothesesSound : Hypotheses → Bool
-hypothesesSound h = leb (h .used) 1024 && distinctOf (seenBy h)
+hypothesesSound h = idsUpTo 1024 (h .ids) (h .used)

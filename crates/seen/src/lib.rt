@@ -4,7 +4,7 @@ use ids::Lookup;
 ghost use mathlib.Core.Path.{_≡_};
 ghost use Prim.Native.Nat.{_≤_, _<_};
 ghost use lib.ListN.{length, take};
-ghost use Rattle.seen.specs.Seen.{placeOf, usedWith, seenAll, seenOf, runAfter, hypothesesOf, newHypotheses, seenHypotheses, hypothesesSound};
+ghost use Rattle.seen.specs.Seen.{placeOf, usedWith, seenAll, seenOf, runAfter, hypothesesOf, newHypotheses, seenHypotheses, idsUpTo, hypothesesSound};
 
 // How many places are used in the end, and whether an id found none.
 pub struct Seen {
@@ -118,13 +118,22 @@ pub fn see_hypotheses(h: Hypotheses, ids: &[i32]) -> SeenHypotheses
     see_ids(old_ids, h.used, ids)
 }
 
-fn ids_sound(ids: [i32; 1024], used: usize) -> bool
-    ensures { λ r. ⌜ r ≡ hypothesesSound (hypothesesOf ids used) ⌝ }
+// Whether at most so many ids are in use, and none of them stands twice.
+pub fn sound_up_to(ids: &[i32], used: usize, most: usize) -> bool
+    requires { ⌜ most ≤ length (now ids) ⌝ }
+    ensures { λ r. ⌜ r ≡ idsUpTo most (now (ids .entry)) used ⌝ }
 {
-    if used > 1024 {
+    if used > most {
         return false;
     }
     ids::distinct(&ids[..used])
+}
+
+// By its parts: so their length is known.
+fn ids_sound(ids: [i32; 1024], used: usize) -> bool
+    ensures { λ r. ⌜ r ≡ hypothesesSound (hypothesesOf ids used) ⌝ }
+{
+    sound_up_to(&ids, used, 1024)
 }
 
 // Whether hypotheses that are handed in are such that refusal 1 lets them by.

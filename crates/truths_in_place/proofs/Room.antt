@@ -17,7 +17,8 @@ use Rattle.partners.specs.declared.SeenTruths.{SeenTruths}
 use Rattle.partners.specs.declared.Truths.{Truths}
 use Rattle.partners.specs.Partners.{Pair, pairAt, pairsOf, tableOf, matchAll, none, seenTruths, bookedOf}
 use Rattle.partners.proofs.Meaning.{truthOf, ids-are}
-use Rattle.truths_in_place.specs.Table.{truthsIn, fitIn, rowIdsOf}
+use Rattle.truths_in_place.specs.Table.{truthsIn}
+use Rattle.id_runs.specs.Runs.{fitIn, rowIdsOf}
 
 -- ---- what a choice says
 pick-seen : (b : Bool) (x y : SeenTruths) → x .full ≡ true → y .full ≡ false → cond b x y .full ≡ b

@@ -14,7 +14,8 @@ use Rattle.seen.specs.Seen.{over, seenAll, seenOf, runAfter}
 use Rattle.seen.proofs.Growth.{all-long, says-fits}
 use Rattle.partners.specs.declared.Last.{Last}
 use Rattle.partners.specs.Partners.{nobody, tableOf, withTable, seenTable, seenTruths}
-use Rattle.truths_in_place.specs.Table.{lastFrom, lastAt, truthsIn, cleared, seenPut, TruthsSeen}
+use Rattle.truths_in_place.specs.Table.{lastFrom, lastAt, truthsIn, seenPut, TruthsSeen}
+use Rattle.id_runs.specs.Runs.{cleared}
 use Rattle.truths_in_place.proofs.Places.{lastsIn, lasts-long, last-at}
 use Rattle.truths_in_place.proofs.Filling.{over-long, over-past, over-part, take-over, filled-long, take-before, at-before, at-between, at-after}
 use Rattle.truths_in_place.proofs.Room.{ids-in-use, truths-few, not-full}

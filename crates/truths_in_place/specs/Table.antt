@@ -1,12 +1,10 @@
 -- Truth ids and their last partners in a run of 768 numbers, three columns of 256: the ids, whether the partner is known, the partner.
 -- Definitions of what the run stands for, and of every number that a frame writes there.
-use mathlib.Core.Bool.{Bool, not}
 use mathlib.Core.Path.{_≡_}
-use mathlib.Core.List.{List, [], _∷_, _++_, map}
-use Prim.Native.Nat.{ℕ, zero, suc, _+_, _-_, _/_}
-use lib.Dec.{ltb}
+use mathlib.Core.List.{List, [], _∷_}
+use Prim.Native.Nat.{ℕ, zero, suc, _+_}
 use lib.IntN.{ℤ, pos}
-use lib.ListN.{length, take, getD, replicate}
+use lib.ListN.{length, take}
 use Rattle.columns.specs.Columns.{partnerOf, cell, putAll}
 use Rattle.ids.specs.declared.Lookup.{Lookup}
 use Rattle.ids.specs.Ids.{seekOf}
@@ -14,6 +12,7 @@ use Rattle.seen.specs.Seen.{over, placeOf, usedWith, seenAll}
 use Rattle.partners.specs.declared.Last.{Last}
 use Rattle.partners.specs.declared.Truths.{Truths}
 use Rattle.partners.specs.Partners.{truthsOf, Pair, bookedOf, seenTruths}
+use Rattle.id_runs.specs.Runs.{cleared}
 use Rattle.truths_in_place.specs.declared.Matched.{Matched}
 
 -- ---- what the run stands for
@@ -31,15 +30,7 @@ lastsFrom table i (suc n) = lastAt table i ∷ lastsFrom table (suc i) n
 abbrev pub truthsIn : List ℤ → ℕ → Truths
 truthsIn table used = truthsOf (take 256 table) (lastsFrom table 0 256) used
 
--- ---- whether ids find room
-abbrev pub fitIn : ℕ → List ℤ → List ℤ → Bool
-fitIn room known ids = not (ltb room (length (seenAll known ids)))
-
 -- ---- the pairs of a frame
--- the truth ids of places of a matrix with w columns
-abbrev pub rowIdsOf : List ℤ → ℕ → List ℕ → List ℤ
-rowIdsOf truths w ks = map (λ (k : ℕ). getD truths (k / w) (pos 0)) ks
-
 abbrev pub foundIn : List ℤ → ℕ → Pair → Lookup
 foundIn table used p = seekOf (take used table) (p .truth)
 
@@ -58,10 +49,6 @@ pub record MatchesBooked (table : List ℤ) (used : ℕ) (ps : List Pair) (after
   pub numbers : after ≡ pairsPut table used ps
 
 -- ---- the truth ids of a frame, seen
--- 0 at the places from one on and before another
-abbrev pub cleared : List ℤ → ℕ → ℕ → List ℤ
-cleared run from to = over (take from run ++ replicate (to - from) (pos 0)) run
-
 -- these ids in the first column, and beside each that is new no partner
 unfoldable pub seenPut : List ℤ → ℕ → List ℤ → List ℤ
 seenPut table used l = cleared (cleared (over l table) (256 + used) (256 + length l)) (512 + used) (512 + length l)

@@ -1,5 +1,5 @@
 //! The port beside the Rust in one process, call after call, until the minutes are over or an answer differs.
-//! Usage: soak MINUTES SEED | soak exhaustive
+//! Usage: soak MINUTES SEED | soak exhaustive | soak small
 
 mod boxes;
 mod logs;
@@ -10,7 +10,7 @@ mod port;
 mod search;
 mod updates;
 
-use numbers::Numbers;
+use numbers::{Numbers, TELLING};
 use std::time::{Duration, Instant};
 
 /// Calls between two looks at the clock.
@@ -40,24 +40,27 @@ fn soak(minutes: f64, seed: u64) -> Result<(), String> {
     Ok(())
 }
 
-fn exhaustive() -> Result<(), String> {
-    println!("exhaustive: no difference in {} searches", search::exhaustive()?);
-    let extended = updates::exhaustive(|frames| updates::play(frames.iter().cloned()))?;
-    let internal = updates::exhaustive(|frames| logs::internal_play(frames.iter().map(|f| (1, f.clone(), logs::near(f)))))?;
-    let public = updates::exhaustive(|frames| logs::public_play(frames.iter().map(|f| (1, f.clone()))))?;
-    println!("exhaustive: no difference in {extended} updates of the extended accumulator, {internal} of module 3's, {public} of module 4's");
+/// The searches of these kinds of square, and all sequences of so many frames over a tiny scene.
+fn exhaustive(name: &str, squares: &[(usize, &[f64])], frames: u32) -> Result<(), String> {
+    println!("{name}: no difference in {} searches", search::exhaustive(squares)?);
+    let extended = updates::exhaustive(frames, |frames| updates::play(frames.iter().cloned()))?;
+    let internal =
+        updates::exhaustive(frames, |frames| logs::internal_play(frames.iter().map(|f| (1, f.clone(), logs::near(f)))))?;
+    let public = updates::exhaustive(frames, |frames| logs::public_play(frames.iter().map(|f| (1, f.clone()))))?;
+    println!("{name}: no difference in {extended} updates of the extended accumulator, {internal} of module 3's, {public} of module 4's");
     Ok(())
 }
 
 fn main() {
     let words: Vec<String> = std::env::args().skip(1).collect();
     let outcome = match words.iter().map(String::as_str).collect::<Vec<_>>()[..] {
-        ["exhaustive"] => exhaustive(),
+        ["exhaustive"] => exhaustive("exhaustive", &[(2, &TELLING[..]), (3, &search::FIVE)], 4),
+        ["small"] => exhaustive("small", &[(2, &TELLING[..])], 3),
         [minutes, seed] => match (minutes.parse(), seed.parse()) {
             (Ok(minutes), Ok(seed)) => soak(minutes, seed),
             _ => Err("soak: minutes and a seed are numbers".into()),
         },
-        _ => Err("Usage: soak MINUTES SEED | soak exhaustive".into()),
+        _ => Err("Usage: soak MINUTES SEED | soak exhaustive | soak small".into()),
     };
     if let Err(what) = outcome {
         eprintln!("{what}");

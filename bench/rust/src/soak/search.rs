@@ -1,6 +1,6 @@
 //! The assignment search.
 
-use crate::{numbers::{Numbers, TELLING}, port};
+use crate::{numbers::Numbers, port};
 use norfair::internal::scipy::optimize::linear_sum_assignment;
 
 /// Both sides on one matrix; None, or what differs. The step counts stay under document 01's bound.
@@ -60,10 +60,13 @@ pub fn call(numbers: &mut Numbers) -> Option<String> {
     compare(&run, rows, cols, most)
 }
 
-/// All 2 by 2 matrices over the forty, all 3 by 3 over five, and every pair of sizes up to 64 once; how many, or what differs.
-pub fn exhaustive() -> Result<u64, String> {
+/// Floats for all squares of three.
+pub const FIVE: [f64; 5] = [0.0, 1.0, 2.0, f64::NAN, f64::INFINITY];
+
+/// All squares of each side over its floats, and every pair of sizes up to 64 once; how many, or what differs.
+pub fn exhaustive(squares: &[(usize, &[f64])]) -> Result<u64, String> {
     let mut done = 0;
-    for (side, floats) in [(2, &TELLING[..]), (3, &[0.0, 1.0, 2.0, f64::NAN, f64::INFINITY][..])] {
+    for &(side, floats) in squares {
         let places = side * side;
         for code in 0..floats.len().pow(places as u32) {
             let run: Vec<f64> = (0..places).map(|k| floats[code / floats.len().pow(k as u32) % floats.len()]).collect();

@@ -98,12 +98,12 @@ fn tiny() -> Vec<Frame> {
         .collect()
 }
 
-/// All sequences of four such frames, each held after every frame, handed to a player; how many updates that is.
-pub fn exhaustive(play: fn(&[Frame]) -> Result<u64, String>) -> Result<u64, String> {
+/// All sequences of so many such frames, each held after every frame, handed to a player; how many updates that is.
+pub fn exhaustive(length: u32, play: fn(&[Frame]) -> Result<u64, String>) -> Result<u64, String> {
     let frames = tiny();
     let kinds = frames.len();
-    (0..kinds.pow(4)).try_fold(0, |done, code| {
-        let sequence: Vec<Frame> = (0..4).map(|k| frames[code / kinds.pow(k) % kinds].clone()).collect();
+    (0..kinds.pow(length)).try_fold(0, |done, code| {
+        let sequence: Vec<Frame> = (0..length).map(|k| frames[code / kinds.pow(k) % kinds].clone()).collect();
         Ok(done + play(&sequence)?)
     })
 }

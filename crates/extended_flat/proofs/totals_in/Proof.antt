@@ -39,7 +39,7 @@ returns c =
     let z = c .before .before .before .before .before .before .before in
     let l = z .before .before .before .args .counters .now in
     λ i. record {
-      used = told natAbs (getD l 0 (pos 0)) (z .before .size-arg .given) (z .size .ensures) i;
+      used = told natAbs (getD l 0 (pos 0)) (z .before .size-arg .given) (z .size .ensures .0) i;
       «frame_id» = back (getD l 1 (pos 0)) (c .before .before .before .before .before .before .t5 .given) i;
       «num_matches» = back (getD l 2 (pos 0)) (c .before .before .before .before .before .t8 .given) i;
       «num_misses» = back (getD l 3 (pos 0)) (c .before .before .before .before .t10 .given) i;

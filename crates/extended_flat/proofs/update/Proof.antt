@@ -1,5 +1,6 @@
 -- `extended_flat::update` meets its contract. Assumes nothing.
-use mathlib.Core.Path.{sym, _∙_, subst}
+use mathlib.Core.Path.{sym, ap, _∙_, subst}
+use Rattle.sizes.specs.Sizes.{lengthsNo}
 use borrow.Author.Tests.{not-true, not-false}
 use Rattle.extended_flat.specs.Flat.{Answered}
 use Rattle.extended_flat.proofs.Ways as ways
@@ -10,15 +11,18 @@ use Rattle.extended_flat.proofs.update.Tie as tie
 whole-requires : tie.Need-whole-requires
 whole-requires c κs = search needs
 
+shape-no-requires : tie.Need-shape-no-requires
+shape-no-requires c κs = search needs
+
 lengths-no-requires : tie.Need-lengths-no-requires
 lengths-no-requires c κs = search needs
 
 returns : tie.Need-returns
 returns c =
-    let e = c .before in
+    let e = c .before .before in
     let s = e .before .before .before .before .before in
     let a = s .args in
-    subst (Answered (a .run .now) (a .counters .now) (a .distance .now) (a .gt-ids .now) (a .gt-bboxes .now) (a .pred-ids .now) (a .pred-bboxes .now) (a .threshold) (a .run .now) (a .counters .now) (a .distance .now)) (sym (c .lengths-no .ensures)) (ways.no-state (a .run .now) (a .counters .now) (a .distance .now) (a .gt-ids .now) (a .gt-bboxes .now) (a .pred-ids .now) (a .pred-bboxes .now) (a .threshold) (sym (e .before .whole .ensures) ∙ not-true _ (e .if1 .taken)))
+    subst (Answered (a .run .now) (a .counters .now) (a .distance .now) (a .gt-ids .now) (a .gt-bboxes .now) (a .pred-ids .now) (a .pred-bboxes .now) (a .threshold) (a .run .now) (a .counters .now) (a .distance .now)) (sym (c .lengths-no .ensures ∙ ap lengthsNo (c .before .shape-no .ensures))) (ways.no-state (a .run .now) (a .counters .now) (a .distance .now) (a .gt-ids .now) (a .gt-bboxes .now) (a .pred-ids .now) (a .pred-bboxes .now) (a .threshold) (sym (e .before .whole .ensures) ∙ not-true _ (e .if1 .taken)))
 
 update-whole-requires : tie.Need-update-whole-requires
 update-whole-requires c κs =
@@ -42,6 +46,7 @@ update-spec =
     tie.close
     (tie.spec
     whole-requires
+    shape-no-requires
     lengths-no-requires
     returns
     update-whole-requires

@@ -7,7 +7,7 @@ use native.Mathlib.Omega.{arith}
 use lib.ListN.{length-set}
 use Rattle.counts.proofs.Ids.{back}
 use Rattle.extended_flat.specs.Flat.{countersOf}
-use Rattle.extended_flat.proofs.Laws.{whole-written}
+use Rattle.sizes.proofs.Laws.{whole-written}
 use borrow.Author.Needs.{needs}
 use Rattle.extended_flat.proofs.write_totals.Statement.{statement}
 use Rattle.extended_flat.proofs.write_totals.Tie as tie

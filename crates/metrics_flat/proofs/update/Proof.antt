@@ -1,6 +1,7 @@
 -- `metrics_flat::update` meets its contract. Assumes nothing.
-use mathlib.Core.Path.{sym, _∙_, subst}
+use mathlib.Core.Path.{sym, ap, _∙_, subst}
 use mir.Facts.{toZ-ofZ}
+use Rattle.sizes.specs.Sizes.{lengthsNo}
 use borrow.Author.Tests.{not-true, not-false}
 use Rattle.metrics_in_place.specs.InPlace.{runsOf}
 use Rattle.metrics_flat.specs.Flat.{Answered}
@@ -12,15 +13,18 @@ use Rattle.metrics_flat.proofs.update.Tie as tie
 whole-requires : tie.Need-whole-requires
 whole-requires c κs = search needs
 
+shape-no-requires : tie.Need-shape-no-requires
+shape-no-requires c κs = search needs
+
 lengths-no-requires : tie.Need-lengths-no-requires
 lengths-no-requires c κs = search needs
 
 returns : tie.Need-returns
 returns c =
-    let e = c .before in
+    let e = c .before .before in
     let a = e .before .before .before .before .before .before .args in
     let x = runsOf (a .numbers .now) (a .log-distances .now) (a .table .now) (a .hypotheses .now) in
-    subst (Answered x (a .used .now) (a .frame) (a .gt-ids .now) (a .hyp-ids .now) (a .gt-boxes .now) (a .hyp-boxes .now) (a .iou-threshold) x (a .used .now)) (sym (c .lengths-no .ensures)) (ways.no-state x (a .used .now) (a .frame) (a .gt-ids .now) (a .hyp-ids .now) (a .gt-boxes .now) (a .hyp-boxes .now) (a .iou-threshold) (sym (e .before .whole .ensures) ∙ not-true _ (e .if1 .taken)))
+    subst (Answered x (a .used .now) (a .frame) (a .gt-ids .now) (a .hyp-ids .now) (a .gt-boxes .now) (a .hyp-boxes .now) (a .iou-threshold) x (a .used .now)) (sym (c .lengths-no .ensures ∙ ap lengthsNo (c .before .shape-no .ensures))) (ways.no-state x (a .used .now) (a .frame) (a .gt-ids .now) (a .hyp-ids .now) (a .gt-boxes .now) (a .hyp-boxes .now) (a .iou-threshold) (sym (e .before .whole .ensures) ∙ not-true _ (e .if1 .taken)))
 
 update-whole-requires : tie.Need-update-whole-requires
 update-whole-requires c κs = let e = c .before .before .before .before .before in sym (e .before .whole .ensures) ∙ not-false _ (e .if1 .left)
@@ -50,6 +54,7 @@ update-spec =
     tie.close
     (tie.spec
     whole-requires
+    shape-no-requires
     lengths-no-requires
     returns
     update-whole-requires

@@ -1,7 +1,9 @@
 -- `metrics_flat::update_whole` meets its contract. Assumes nothing.
 use mir.Facts.{toZ-ofZ}
 use native.Mathlib.Omega.{arith}
+use mathlib.Core.List.{[], _∷_}
 use lib.ListN.{length-set}
+use Rattle.sizes.proofs.Laws.{whole-written}
 use Rattle.metrics_in_place.specs.InPlace.{runsOf}
 use Rattle.metrics_flat.proofs.Ways as ways
 use borrow.Author.Needs.{needs}
@@ -9,16 +11,16 @@ use Rattle.metrics_flat.proofs.update_whole.Statement.{statement}
 use Rattle.metrics_flat.proofs.update_whole.Tie as tie
 
 slice-read-t17 : tie.Need-slice-read-t17
-slice-read-t17 c = let h = ways.long _ _ _ _ _ (c .before .before .before .before .before .pre) .1 in omega arith
+slice-read-t17 c = let h = ways.long _ _ _ _ _ (c .before .before .before .before .before .pre) .2 in omega arith
 
 slice-read-t19 : tie.Need-slice-read-t19
-slice-read-t19 c = let h = ways.long _ _ _ _ _ (c .before .before .before .before .before .before .pre) .1 in omega arith
+slice-read-t19 c = let h = ways.long _ _ _ _ _ (c .before .before .before .before .before .before .pre) .2 in omega arith
 
 slice-read-t21 : tie.Need-slice-read-t21
-slice-read-t21 c = let h = ways.long _ _ _ _ _ (c .before .before .before .before .before .before .before .pre) .1 in omega arith
+slice-read-t21 c = let h = ways.long _ _ _ _ _ (c .before .before .before .before .before .before .before .pre) .2 in omega arith
 
 update-checked-requires : tie.Need-update-checked-requires
-update-checked-requires c κs = ways.long _ _ _ _ _ (c .before .before .before .before .before .before .before .before .before .before .before .pre) .0
+update-checked-requires c κs = let h = ways.long _ _ _ _ _ (c .before .before .before .before .before .before .before .before .before .before .before .pre) in (h .0, h .1)
 
 same-length : tie.Need-same-length
 same-length c = search needs
@@ -40,13 +42,13 @@ returns c =
     ways.kept (runsOf (a .numbers .now) (a .log-distances .now) (a .table .now) (a .hypotheses .now)) (a .used .now) (a .frame) (a .gt-ids .now) (a .hyp-ids .now) (a .gt-boxes .now) (a .hyp-boxes .now) (a .iou-threshold) (s .pre) (runsOf (u .update-checked .last .0) (u .update-checked .last .1 .0) (u .update-checked .last .1 .1 .0) (u .update-checked .last .1 .1 .1 .0)) (u .update-checked .result) (rw (toZ-ofZ (s .fits .frame)) at (u .update-checked .ensures)) (c .if1 .taken)
 
 slice-write-used : tie.Need-slice-write-used
-slice-write-used c = let h = ways.long _ _ _ _ _ (c .before .before .before .before .before .before .before .before .before .before .before .before .before .before .before .before .before .before .before .pre) .1 in omega arith
+slice-write-used c = let h = ways.long _ _ _ _ _ (c .before .before .before .before .before .before .before .before .before .before .before .before .before .before .before .before .before .before .before .pre) .2 in omega arith
 
 slice-write-used-2 : tie.Need-slice-write-used-2
-slice-write-used-2 c = let h = ways.long _ _ _ _ _ (c .before .before .before .before .before .before .before .before .before .before .before .before .before .before .before .before .before .before .before .pre) .1 in simp length-set (omega arith)
+slice-write-used-2 c = let h = ways.long _ _ _ _ _ (c .before .before .before .before .before .before .before .before .before .before .before .before .before .before .before .before .before .before .before .pre) .2 in simp length-set (omega arith)
 
 slice-write-used-3 : tie.Need-slice-write-used-3
-slice-write-used-3 c = let h = ways.long _ _ _ _ _ (c .before .before .before .before .before .before .before .before .before .before .before .before .before .before .before .before .before .before .before .pre) .1 in simp length-set (omega arith)
+slice-write-used-3 c = let h = ways.long _ _ _ _ _ (c .before .before .before .before .before .before .before .before .before .before .before .before .before .before .before .before .before .before .before .pre) .2 in simp length-set (omega arith)
 
 same-length-5 : tie.Need-same-length-5
 same-length-5 c = search needs
@@ -69,7 +71,7 @@ returns-2 c =
     let s = u .before .before .before .before .before .before .before .before .before .before .before .before in
     let a = s .args in
     ways.written (runsOf (a .numbers .now) (a .log-distances .now) (a .table .now) (a .hypotheses .now)) (a .used .now) (a .frame) (a .gt-ids .now) (a .hyp-ids .now) (a .gt-boxes .now) (a .hyp-boxes .now) (a .iou-threshold) (s .pre) (runsOf (u .update-checked .last .0) (u .update-checked .last .1 .0) (u .update-checked .last .1 .1 .0) (u .update-checked .last .1 .1 .1 .0)) (u .update-checked .result) (rw (toZ-ofZ (s .fits .frame)) at (u .update-checked .ensures)) (c .before .if1 .left) _
-    (ways.three-written (a .used .now) _ _ _ (ways.long _ _ _ _ _ (s .pre) .1))
+    (whole-written (a .used .now) (_ ∷ _ ∷ _ ∷ []) (ways.long _ _ _ _ _ (s .pre) .2))
 
 pub update-whole-spec : {M : Type 1} → statement M
 update-whole-spec =

@@ -1,9 +1,9 @@
 -- `motmetrics_flat::sound` meets its contract. Assumes nothing.
-use mathlib.Core.Path.{sym, ap, _∙_}
+use mathlib.Core.Path.{_≡_, sym}
 use native.Mathlib.Omega.{arith}
 use borrow.Author.Tests.{le-leb, lt-leb}
-use lib.Seq.{length-take-le, take-take}
-use Rattle.ids.specs.Ids.{distinctOf}
+use lib.ListN.{length, take}
+use lib.Seq.{length-take-le}
 use Rattle.partners.specs.Partners.{idsSound}
 use Rattle.motmetrics.specs.State.{soundState}
 use borrow.Author.Needs.{needs}
@@ -14,28 +14,23 @@ returns : tie.Need-returns
 unfolding soundState
 returns c = rw (lt-leb _ _ (c .if1 .taken))
 
+slice-aggregate-sound-up-to : tie.Need-slice-aggregate-sound-up-to
+slice-aggregate-sound-up-to c =
+    let s = c .before .before .before in
+    let n = s .pre in
+    sym (length-take-le 256 (s .args .table .now) (omega arith))
+
+sound-up-to-requires : tie.Need-sound-up-to-requires
+sound-up-to-requires c κs =
+    let s = c .before .before .before in
+    let n = s .pre in
+    let l : length (take 256 (s .args .table .now)) ≡ 256 = length-take-le 256 (s .args .table .now) (omega arith) in
+    omega arith
+
 returns-2 : tie.Need-returns-2
 unfolding soundState idsSound
-returns-2 c = rw (le-leb _ _ (c .before .if1 .left), lt-leb _ _ (c .if2 .taken))
-
-slice-aggregate-distinct : tie.Need-slice-aggregate-distinct
-slice-aggregate-distinct c =
-    let s = c .before .before .before .before in
-    let h = c .before .if2 .left in
-    let n = s .pre in
-    sym (length-take-le (s .args .used .truths) (s .args .table .now) (omega arith))
-
-distinct-requires : tie.Need-distinct-requires
-distinct-requires c κs = search needs
-
-returns-3 : tie.Need-returns-3
-unfolding soundState idsSound
-returns-3 c =
-    let d = c .before .before in
-    let a = d .before .before .before .args in
-    rw (le-leb _ _ (d .before .if1 .left), le-leb _ _ (d .if2 .left))
-    (c .distinct .ensures ∙ ap distinctOf (sym (take-take (a .used .truths) 256 (a .table .now) (d .if2 .left))))
+returns-2 c = rw (le-leb _ _ (c .before .before .if1 .left)) (c .sound-up-to .ensures)
 
 pub sound-spec : {M : Type 1} → statement M
 sound-spec =
-    tie.close (tie.spec returns returns-2 slice-aggregate-distinct distinct-requires returns-3)
+    tie.close (tie.spec returns slice-aggregate-sound-up-to sound-up-to-requires returns-2)

@@ -1,7 +1,9 @@
 -- `motmetrics_flat::update_whole` meets its contract. Assumes nothing.
 use mir.Facts.{toZ-ofZ}
 use native.Mathlib.Omega.{arith}
+use mathlib.Core.List.{[], _∷_}
 use lib.ListN.{length-set}
+use Rattle.sizes.proofs.Laws.{whole-written}
 use Rattle.motmetrics_in_place.specs.Updated.{runsOf}
 use Rattle.motmetrics_flat.proofs.Ways as ways
 use borrow.Author.Needs.{needs}
@@ -57,7 +59,7 @@ returns-2 c =
     let s = u .before .before .before .before .before .before .before .before .before in
     let a = s .args in
     ways.written (runsOf (a .numbers .now) (a .log-distances .now) (a .table .now)) (a .used .now) (a .frame-id) (a .object-ids .now) (a .hypothesis-ids .now) (a .distances .now) (s .pre) (runsOf (u .update-checked .last .0) (u .update-checked .last .1 .0) (u .update-checked .last .1 .1 .0)) (u .update-checked .result) (rw (toZ-ofZ (s .fits .frame-id)) at (u .update-checked .ensures)) (c .before .if1 .left) _
-    (ways.two-written (a .used .now) _ _ (ways.long _ _ _ _ (s .pre) .1))
+    (whole-written (a .used .now) (_ ∷ _ ∷ []) (ways.long _ _ _ _ (s .pre) .1))
 
 pub update-whole-spec : {M : Type 1} → statement M
 update-whole-spec =

@@ -6,8 +6,8 @@ use native.Mathlib.Omega.{arith}
 use lib.IntN.{ℤ, pos}
 use lib.ListN.{length, take, getD, length-map}
 use lib.Seq.{length-take-le}
-use Rattle.truths_in_place.specs.Table.{fitIn, rowIdsOf}
-use Rattle.truths_in_place.proofs.Counting.{all-short, fits}
+use Rattle.id_runs.specs.Runs.{fitIn, rowIdsOf}
+use Rattle.id_runs.proofs.Counting.{all-short, fits}
 use Rattle.truths_in_place.proofs.Room.{matches-told}
 use borrow.Author.Needs.{needs}
 use Rattle.truths_in_place.proofs.matches_fit.Statement.{statement}
