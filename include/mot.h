@@ -1,4 +1,5 @@
-/* The port for C: what the archive of crates/mot_c exports.
+/* The port for C. The matrices and the solver are in the archive of crates/mot_c, the accumulators in those of
+ * crates/extended_c, crates/motmetrics_c and crates/metrics_c. Each stands alone: link those that you call.
  *
  * A slice is a pointer and the number of its elements. A length of 0 goes with any pointer that is not null and is aligned.
  * Lent memory that is written must not overlap any other argument of the call.

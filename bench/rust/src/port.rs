@@ -1,4 +1,4 @@
-//! What crates/mot_c and crates/bench_c export. A slice goes over as a pointer and a length.
+//! What crates/mot_c, crates/extended_c, crates/motmetrics_c, crates/metrics_c and crates/bench_c export. A slice goes over as a pointer and a length.
 
 extern "C" {
     fn mot_compute_iou_distance_matrix(

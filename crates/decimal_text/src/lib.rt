@@ -11,7 +11,7 @@ use crate::digits::first_shown;
 use crate::digits::spell;
 use crate::letters::put;
 use crate::limbs::millionths;
-use numerals::patterns::bits_of;
+use float_bits::bits_of;
 
 pub mod digits;
 pub mod letters;

@@ -146,7 +146,7 @@ fn coverage(from: &mut [u8; 65536], to: &mut [u8; 65536], s: Session) -> Session
     let c = it.coverage();
     let q = output::decimal(to, s.writer, c.number as u64);
     let q = output::byte(to, q, b' ');
-    let q = output::float(to, q, numerals::patterns::computed(c.value));
+    let q = output::float(to, q, float_bits::computed(c.value));
     ended(to, end, q)
 }
 

@@ -1,2 +1,3 @@
 pub mod Machine
 pub mod Refused
+pub mod Walk

@@ -1,4 +1,4 @@
--- What both walks share: the machine values of a record and of an answer, and what an answer's says of its parts. Assumes nothing.
+-- The machine values of a record and of an answer, and what an answer's says of its parts, for the walk of `Walk.antt`. Assumes nothing.
 use mathlib.Core.Path.{_≡_, ap}
 use Prim.Native.Nat.{_<_, _^_}
 use mathlib.Core.List.{[], _∷_}

@@ -7,8 +7,8 @@ use borrow.Author.Tests.{ltb-true}
 use lib.Dec.{ltb}
 use Rattle.numerals.specs.declared.digits.Number.{Number}
 use Rattle.numerals.specs.declared.digits.Number.the-variants.{Value, Nothing}
-use Rattle.numerals.specs.declared.wholes.Whole.{Whole}
-use Rattle.numerals.specs.declared.wholes.Whole.the-variants.{Int, NoInt}
+use Rattle.wholes.specs.declared.Whole.{Whole}
+use Rattle.wholes.specs.declared.Whole.the-variants.{Int, NoInt}
 use Rattle.lines.specs.declared.input.Reader.{Reader}
 use Rattle.lines.specs.declared.output.Writer.{Writer}
 use Rattle.lines.specs.Cursors.{Onward, Kept, markedOf, passedOf}

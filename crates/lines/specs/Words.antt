@@ -8,8 +8,8 @@ use Rattle.lines.specs.declared.input.Reader.{Reader}
 use Rattle.lines.specs.declared.input.ReadFloat.{ReadFloat}
 use Rattle.lines.specs.declared.input.ReadCount.{ReadCount}
 use Rattle.lines.specs.declared.input.ReadWhole.{ReadWhole}
-use Rattle.numerals.specs.declared.wholes.Whole.{Whole}
-use Rattle.numerals.specs.declared.wholes.Whole.the-variants.{Int, NoInt}
+use Rattle.wholes.specs.declared.Whole.{Whole}
+use Rattle.wholes.specs.declared.Whole.the-variants.{Int, NoInt}
 use Rattle.lines.specs.Cursors.{markedOf}
 
 -- no number is a fault, and the value 0

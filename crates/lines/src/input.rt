@@ -6,15 +6,15 @@ ghost use Prim.Native.Nat.{_≤_};
 ghost use lib.ListN.{length};
 ghost use Rattle.io.specs.Counts.{Counts};
 ghost use Rattle.numerals.specs.Numbers.{hexOf, decimalOf};
-ghost use Rattle.numerals.specs.Wholes.{wholeOf};
+ghost use Rattle.wholes.specs.Wholes.{wholeOf};
 ghost use Rattle.lines.specs.Cursors.{Within, Front, Onward, nextByte, markedOf, passedOf};
 ghost use Rattle.lines.specs.Words.{floatRead, countRead, wholeRead};
+use float_bits::float_of;
 use numerals::digits::Number;
 use numerals::digits::decimal;
 use numerals::digits::hex;
-use numerals::patterns::float_of;
-use numerals::wholes::Whole;
-use numerals::wholes::whole_in;
+use wholes::Whole;
+use wholes::whole_in;
 
 // A place in the buffer, which holds what was read up to end.
 pub struct Reader {

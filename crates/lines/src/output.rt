@@ -1,14 +1,14 @@
 // Standard output through a buffer, which goes out when it is full and where flush is called.
 ghost use mathlib.Core.Path.{_≡_};
 ghost use mathlib.Core.Bool.{false, cond};
-ghost use Rattle.numerals.specs.Numbers.{unsigned};
+ghost use Rattle.float_bits.specs.Unsigned.{unsigned};
 ghost use Prim.Native.Nat.{_+_};
 ghost use lib.ListN.{set};
 ghost use Rattle.lines.specs.Cursors.{Kept, placeOf};
-use numerals::patterns::bits_of;
-use numerals::patterns::computed;
-use numerals::spelling_out::spell;
-use numerals::wholes::size;
+use float_bits::bits_of;
+use float_bits::computed;
+use hex_text::spell;
+use wholes::size;
 
 // How much of the buffer waits, and whether a write failed.
 pub struct Writer {

@@ -1,6 +1,7 @@
 // What the getters say of a state, and what the metrics are.
 use evaluation::Evaluated;
 use evaluation::MOTMetrics;
+use float_bits::computed;
 use lines::output;
 use lines::output::Writer;
 use lines::session::say_count;
@@ -8,7 +9,6 @@ use lines::session::say_float;
 use metrics::Count;
 use metrics::MOTAccumulator;
 use metrics::Score;
-use numerals::patterns::computed;
 
 fn say_size(to: &mut [u8; 65536], w: Writer, n: usize) -> Writer {
     say_count(to, w, n as u64)

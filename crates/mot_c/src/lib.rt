@@ -1,9 +1,7 @@
-// The port for C and Rust: each slice is a pointer and a length. Every function promises what the call behind it does.
-mod accumulators;
-mod solver;
-
+// Modules 1 and 2 for C and Rust: each slice is a pointer and a length. Every function promises what the call behind it does.
 ghost use mathlib.Core.Path.{_≡_};
 ghost use lib.ListN.{length};
+ghost use Rattle.solver_flat.specs.Flat.{Handed};
 ghost use Rattle.matrix.specs.Matrix.{distanceMatrixNo, iouMatrixNo, matrixAfter};
 ghost use Rattle.matrix.specs.declared.Measure.the-variants.{Away, Shared};
 
@@ -25,4 +23,27 @@ pub extern "C" fn mot_iou_matrix(boxes_a: &[f64], boxes_b: &[f64], out: &mut [f6
     ensures written { λ r. ⌜ now (out .exit) ≡ matrixAfter Shared r (now («boxes_a» .entry)) (now («boxes_b» .entry)) (now (out .entry)) ⌝ }
 {
     matrix::iou_matrix(boxes_a, boxes_b, out)
+}
+
+// The counts and lists in 261 places of the lent run.
+#[no_mangle]
+pub extern "C" fn mot_linear_sum_assignment(
+    cost: &[f64],
+    rows: usize,
+    cols: usize,
+    max_cost: f64,
+    out: &mut [usize],
+) -> u32
+    ensures { λ r. ⌜ Handed (now (cost .entry)) rows cols «max_cost» r (now (out .entry)) (now (out .exit)) ⌝ }
+{
+    let answer = optimize::linear_sum_assignment(cost, rows, cols, max_cost);
+    let number = answer.number;
+    if number != 0 {
+        return number;
+    }
+    if out.len() < 261 {
+        return 6;
+    }
+    solver_flat::write_flat(answer, out);
+    0
 }

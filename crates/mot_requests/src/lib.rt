@@ -1,5 +1,6 @@
 // The requests of module 3's MOTAccumulator (oracle/PROTOCOL.md).
 ghost use Prim.Native.Nat.{_≤_};
+use float_bits::computed;
 use lines::input;
 use lines::input::Reader;
 use lines::output;
@@ -17,7 +18,6 @@ use motmetrics::Computed;
 use motmetrics::MOTAccumulator;
 use motmetrics::MOTMetrics;
 use motmetrics_update::Updated;
-use numerals::patterns::computed;
 
 // A state, and how many places of its log and of its table were given.
 struct ReadState {

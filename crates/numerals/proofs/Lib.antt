@@ -1,4 +1,1 @@
 pub mod Values
-pub mod Nans
-pub mod Spelling
-pub mod Signs

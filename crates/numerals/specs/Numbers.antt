@@ -1,12 +1,9 @@
--- Numbers as text, and floats as they are written. Assumes nothing.
+-- What the digits of a word say. Assumes nothing.
 use Prim.Native.Nat.{ℕ, _+_, _-_, _*_, _^_}
-use mathlib.Core.Bool.{false, cond}
+use mathlib.Core.Bool.{cond}
 use mathlib.Core.List.{List, [], _∷_}
 use lib.Dec.{ltb, eqb}
 use lib.ListN.{length}
-use lib.Ieee.{Float, fin, eq}
-use lib.IntN.{pos}
-use Rattle.io.specs.Digits.{digits}
 use Rattle.numerals.specs.declared.digits.Number.{Number}
 use Rattle.numerals.specs.declared.digits.Number.the-variants.{Value, Nothing}
 
@@ -28,11 +25,3 @@ hexOf word = cond (eqb (length word) 16) (valueFrom 16 0 word) Nothing
 -- no digit says nothing
 unfoldable pub decimalOf : List ℕ → Number
 decimalOf word = cond (eqb (length word) 0) Nothing (valueFrom 10 0 word)
-
--- a zero without its sign
-unfoldable pub unsigned : Float → Float
-unsigned x = cond (eq x (fin false 0 (pos 0))) (fin false 0 (pos 0)) x
-
--- the 16 hexadecimal digits of a pattern, in ASCII
-unfoldable pub spelled : ℕ → List ℕ
-spelled n = digits 16 16 n

@@ -1,5 +1,2 @@
-// Numbers as text: what the digits of a word say, and the words that say a number.
+// Numbers as text: what the digits of a word say.
 pub mod digits;
-pub mod patterns;
-pub mod spelling_out;
-pub mod wholes;

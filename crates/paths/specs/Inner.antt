@@ -8,8 +8,8 @@ use lib.ListN.{length, getD, take}
 use lib.Dec.{ltb}
 use lib.Ieee.{Float}
 use Rattle.square.specs.Index.{count}
-use Rattle.paths.specs.State.{Tables, paired, state}
-use Rattle.paths.specs.Path.{Bfs, Path, NoPathBelow}
+use Rattle.paths.specs.State.{Tables, paired}
+use Rattle.paths.specs.Path.{Bfs, bfsOf, NoPathBelow}
 
 -- column j was met
 abbrev pub met : List ℕ → ℕ → Bool
@@ -58,7 +58,10 @@ pub record Holds (b : Bfs) (from queue : List ℕ) (hit tail : ℕ) : Type 0 whe
   pub hit-is : hit ≡ b .hit
   pub len : length queue ≡ 64
 
--- a path change or none
-abbrev pub Tried : Bool → ℕ → List Float → List ℕ → List ℕ → List ℕ → List ℕ → Type 0
-Tried true n c rows cols rows' cols' = Path n (state c rows cols) (state c rows' cols')
-Tried false n c rows cols rows' cols' = (rows' ≡ rows) × (cols' ≡ cols) × NoPathBelow n n c rows cols
+-- a row that step E may end at: the first free one that has a path
+pub record Leads (n : ℕ) (c : List Float) (rows cols : List ℕ) (start : ℕ) : Type 0 where
+  pub tables : Tables n rows cols
+  pub start-in : start < n
+  pub start-free : paired n rows start ≡ false
+  pub first : NoPathBelow start n c rows cols
+  pub hit-in : bfsOf c n cols start .hit < n

@@ -2,9 +2,9 @@
 // The square lies at stride 64; in the tables n or more is no partner; 64 is no place and no column.
 ghost use mathlib.Core.Path.{_≡_};
 ghost use lib.ListN.{length, getD, replicate};
-ghost use Rattle.paths.specs.State.{Tables};
-ghost use Rattle.paths.specs.Path.{bfsOf, Flips};
-ghost use Rattle.paths.specs.Inner.{Trail, Begins, Holds, Tried};
+ghost use Rattle.paths.specs.State.{state};
+ghost use Rattle.paths.specs.Path.{bfsOf, Flips, Path};
+ghost use Rattle.paths.specs.Inner.{Trail, Begins, Holds, Leads};
 
 // The free column met, or 64, and how many rows were queued.
 pub struct Found {
@@ -78,24 +78,20 @@ fn flip(
     cols[col] = row;
 }
 
-// Step E: the first free row that has a path, and that path flipped. False where there is none.
-pub fn augment(c: &[f64; 4096], n: usize, rows: &mut [usize; 64], cols: &mut [usize; 64]) -> bool
-    requires { ⌜ Tables n (now rows) (now cols) ⌝ }
-    ensures { λ r. ⌜ Tried r n (now (c .entry)) (now (rows .entry)) (now (cols .entry)) (now (rows .exit)) (now (cols .exit)) ⌝ }
+// Step E from the first free row that has a path: that path flipped.
+pub fn augment(
+    c: &[f64; 4096],
+    n: usize,
+    rows: &mut [usize; 64],
+    cols: &mut [usize; 64],
+    start: usize,
+)
+    requires { ⌜ Leads n (now c) (now rows) (now cols) start ⌝ }
+    ensures { λ r. ⌜ Path n (state (now (c .entry)) (now (rows .entry)) (now (cols .entry))) (state (now (c .entry)) (now (rows .exit)) (now (cols .exit))) ⌝ }
 {
-    let mut start = 0usize;
-    while start < n {
-        if n <= rows[start] {
-            let mut from = [64usize; 64];
-            let mut queue = [0usize; 64];
-            let found = bfs(c, n, cols, start, &mut from, &mut queue);
-            let hit = found.hit;
-            if hit < n {
-                flip(&from, &queue, hit, rows, cols);
-                return true;
-            }
-        }
-        start += 1;
-    }
-    false
+    let mut from = [64usize; 64];
+    let mut queue = [0usize; 64];
+    let found = bfs(c, n, cols, start, &mut from, &mut queue);
+    let hit = found.hit;
+    flip(&from, &queue, hit, rows, cols);
 }

@@ -1,7 +1,7 @@
 // A frame handed to both accumulators: booked by both, or by neither.
 use metrics::MOTAccumulator;
-use numerals::wholes::size;
 use rows::ExtendedMOTAccumulator;
+use wholes::size;
 ghost use mathlib.Core.Path.{_≡_};
 ghost use Prim.Native.Nat.{_-_};
 ghost use lib.IntN.{natAbs};

@@ -2,6 +2,7 @@
 ghost use Prim.Native.Nat.{_≤_};
 ghost use lib.ListN.{length};
 ghost use Rattle.lines.specs.Cursors.{Front};
+use float_bits::computed;
 use iou::Box;
 use iou::Distance;
 use lines::input;
@@ -11,7 +12,6 @@ use lines::session::Session;
 use lines::session::ended;
 use lines::session::numbered;
 use lines::session::refused;
-use numerals::patterns::computed;
 
 struct ReadBox {
     value: Box,

@@ -1,11 +1,11 @@
 // The requests on single floats.
+use float_bits::computed;
 use lines::input;
 use lines::output;
 use lines::session::Reply;
 use lines::session::Session;
 use lines::session::ended;
 use lines::session::refused;
-use numerals::patterns::computed;
 
 // Two floats, and where the line ended.
 struct FloatPair {

@@ -1,4 +1,4 @@
--- Written by scenes/make from scenes/story.py, never edited: the tables of src/tables.rt, which says how they are read.
+-- Written by scenes/make from scenes/story.py, never edited: the tables of src, which say how they are read.
 use mathlib.Core.List.{List, [], _∷_}
 use Prim.Native.Nat.{ℕ}
 

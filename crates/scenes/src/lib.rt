@@ -6,17 +6,19 @@ ghost use lib.IntN.{pos};
 ghost use lib.ListN.{length, take, getD};
 ghost use Rattle.scenes.specs.Digits.{idOf, partOf, float64, boxOf, sizeOf};
 ghost use Rattle.scenes.specs.Frames.{framesIn, truthsIn, predictionsIn, Few, Laid, Lent, Shown};
-use crate::tables::FLAT_FRAMES;
-use crate::tables::FLAT_PREDICTIONS;
-use crate::tables::FLAT_TRUTHS;
-use crate::tables::INCIDENT_FRAMES;
-use crate::tables::INCIDENT_PREDICTIONS;
-use crate::tables::INCIDENT_TRUTHS;
-use crate::tables::MATCH_FRAMES;
-use crate::tables::MATCH_PREDICTIONS;
-use crate::tables::MATCH_TRUTHS;
+use crate::frame_tables::FLAT_FRAMES;
+use crate::frame_tables::INCIDENT_FRAMES;
+use crate::frame_tables::MATCH_FRAMES;
+use crate::prediction_tables::FLAT_PREDICTIONS;
+use crate::prediction_tables::INCIDENT_PREDICTIONS;
+use crate::prediction_tables::MATCH_PREDICTIONS;
+use crate::truth_tables::FLAT_TRUTHS;
+use crate::truth_tables::INCIDENT_TRUTHS;
+use crate::truth_tables::MATCH_TRUTHS;
 
-mod tables;
+mod frame_tables;
+mod prediction_tables;
+mod truth_tables;
 
 pub enum Scene {
     Match,

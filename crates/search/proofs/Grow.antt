@@ -14,7 +14,7 @@ use Rattle.square.specs.Square.{at, zeroAt}
 use Rattle.square.proofs.Count.{count-strict}
 use Rattle.square.proofs.Square.{least-cases, over-at}
 use Rattle.square.proofs.Truth.{and-both, and-left, and-right}
-use Rattle.paths.specs.State.{State}
+use Rattle.paths.specs.State.{State, paired}
 use Rattle.search.specs.Steps.{Closed, Reached, Within, correction, leastOver, leastRow, leastRows, leastStep, shiftOf, shiftedOf, usefulOf}
 
 pub useful-finite : (m : Float) → usefulOf m ≡ true → isFinite m ≡ true
@@ -87,39 +87,35 @@ module _ (n : ℕ) (n64 : n ≤ 64) (c : List Float) (len : length c ≡ 4096) (
   zero-made i j hi hj r q e f =
       ap isZero (cell i j hi hj ∙ shifted-out m (at c i j) (on R i) (on C j) r q ∙ ap (λ (x : Float). sub binary64 x m) (sym e)) ∙ sub-self-is-zero m f
 
-  module _ (R' C' : List Bool) (a : Reached n old R C) (b : Reached n new R' C') where
+  -- whatever closed sets hold the free rows then: what was reached lies in them
+  module _ (a : Reached n old R C) (P' Q' : ℕ → Bool) (k : Closed (new .square) n cols P' Q') (start : (i : ℕ) → i < n → paired n rows i ≡ false → P' i ≡ true) where
     P : ℕ → Bool
-    P i = on R i && on R' i
+    P i = on R i && P' i
 
     Q : ℕ → Bool
-    Q j = on C j && on C' j
+    Q j = on C j && Q' j
 
     both-closed : Closed c n cols P Q
     unfolding P Q
     both-closed = record {
       row = λ i j hi hj h z.
-          let r = and-left (on R i) (on R' i) h in
+          let r = and-left (on R i) (P' i) h in
           let q = a .closed .row i j hi hj r z in
-          and-both q (b .closed .row i j hi hj (and-right (on R i) (on R' i) h) (zero-kept i j hi hj r q z));
-      col = λ j hj h l. and-both (a .closed .col j hj (and-left (on C j) (on C' j) h) l) (b .closed .col j hj (and-right (on C j) (on C' j) h) l);
+          and-both q (k .row i j hi hj (and-right (on R i) (P' i) h) (zero-kept i j hi hj r q z));
+      col = λ j hj h l. and-both (a .closed .col j hj (and-left (on C j) (Q' j) h) l) (k .col j hj (and-right (on C j) (Q' j) h) l);
     }
 
-    kept : Within R C P Q
+    pub kept : Within R C P' Q'
     unfolding P Q
-    kept = a .within P Q both-closed (λ i hi f. and-both (a .start i hi f) (b .start i hi f))
+    kept =
+        let w = a .within P Q both-closed (λ i hi f. and-both (a .start i hi f) (start i hi f)) in
+        (λ i h. and-right (on R i) (P' i) (w .0 i h), λ j h. and-right (on C j) (Q' j) (w .1 j h))
 
-    pub kept-row : (i : ℕ) → on R i ≡ true → on R' i ≡ true
-    unfolding P
-    kept-row i h = and-right (on R i) (on R' i) (kept .0 i h)
-
-    pub kept-col : (j : ℕ) → on C j ≡ true → on C' j ≡ true
-    unfolding Q
-    kept-col j h = and-right (on C j) (on C' j) (kept .1 j h)
-
-    pub grows : m ≡ leastOver c n R C → isFinite m ≡ true → count n (on C) < count n (on C')
-    grows e f =
-        let w = attained c n R C (subst (λ (x : Float). isFinite x ≡ true) e f) in
-        let i = w .0 in
-        let j = w .3 .0 in
-        count-strict n (on C) (on C') (λ k _ h. kept-col k h) j (w .3 .1) (w .3 .2)
-        (b .closed .row i j (w .1) (w .3 .1) (kept-row i (w .2)) (zero-made i j (w .1) (w .3 .1) (w .2) (w .3 .2) (e ∙ w .3 .3) f))
+  pub grows : (R' C' : List Bool) → Reached n old R C → Reached n new R' C' → m ≡ leastOver c n R C → isFinite m ≡ true → count n (on C) < count n (on C')
+  grows R' C' a b e f =
+      let w = attained c n R C (subst (λ (x : Float). isFinite x ≡ true) e f) in
+      let i = w .0 in
+      let j = w .3 .0 in
+      let v = kept a (on R') (on C') (b .closed) (b .start) in
+      count-strict n (on C) (on C') (λ k _ h. v .1 k h) j (w .3 .1) (w .3 .2)
+      (b .closed .row i j (w .1) (w .3 .1) (v .0 i (w .2)) (zero-made i j (w .1) (w .3 .1) (w .2) (w .3 .2) (e ∙ w .3 .3) f))

@@ -1,8 +1,11 @@
 pub mod Marks
 pub mod Grow
 pub mod NoPath
+pub mod FreeRows
 pub mod ReachCode
 pub mod ReachOf
+pub mod Leads
+pub mod Sought
 pub mod LoopCode
 pub mod Unique
 pub mod Bounds

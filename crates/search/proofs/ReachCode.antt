@@ -1,73 +1,52 @@
--- Step F's sets from all free rows: the loop's invariant. Assumes nothing.
-use Prim.Native.Nat.{ℕ, _+_, _-_, _<_, _≤_}
-use mathlib.Core.Path.{_≡_, sym, _∙_, subst}
+-- The row routine called for row after row: the loop's invariant. Assumes nothing.
+use Prim.Native.Nat.{ℕ, suc, _+_, _<_, _≤_}
+use mathlib.Core.Path.{_≡_, sym, subst}
 use mathlib.Core.Bool.{Bool, true, false}
 use mathlib.Core.List.{List}
-use mathlib.Core.Logic.{_⊎_, ⊎-elim}
+use mathlib.Core.Logic.{⊎-elim}
 use native.Mathlib.Omega.{arith}
 use native.Mathlib.Nat.{not-suc-le-zero}
-use lib.ListN.{replicate, length-replicate}
 use lib.Ieee.{Float}
 use Rattle.square.specs.Index.{on}
-use Rattle.square.proofs.Index.{last-or-before, off}
+use Rattle.square.specs.Square.{zeroAt}
+use Rattle.square.proofs.Index.{below-more}
 use Rattle.square.proofs.Truth.{not-both}
-use Rattle.paths.specs.State.{State, paired}
-use Rattle.search.specs.Inner.{Grown, RowDone}
-use Rattle.search.specs.Steps.{Closed, Reached, Within}
+use Rattle.search.specs.Inner.{Grown, Looked, Met, RowDone}
+use Rattle.search.specs.Steps.{Closed, Within}
 use Rattle.search.proofs.Marks.{grown-more, grown-none}
 
-abbrev pub clear : List Bool
-clear = replicate 64 false
-
-module _ (c : List Float) (n : ℕ) (rows cols : List ℕ) where
-  abbrev s : State
-  s = record { square = c; rows = rows; cols = cols }
-
-  pub record ReachInv (R C : List Bool) (row : ℕ) : Type 0 where
-    pub at-most : row ≤ n
-    pub grown : Grown c n cols clear clear R C
-    pub start : (i : ℕ) → i < row → paired n rows i ≡ false → on R i ≡ true
-    pub within : (P Q : ℕ → Bool) → Closed c n cols P Q → ((i : ℕ) → i < n → paired n rows i ≡ false → P i ≡ true) → Within R C P Q
-
-  pub begin : (R C : List Bool) → R ≡ clear → C ≡ clear → ReachInv R C 0
-  begin R C p q = subst (λ (r : List Bool). ReachInv r C 0) (sym p) (subst (λ (d : List Bool). ReachInv clear d 0) (sym q) (record {
-    at-most = omega arith;
-    grown = grown-none c n cols clear clear;
-    start = λ i l. absurd (not-suc-le-zero l);
-    within = λ P Q k f. (λ i h. not-both (on clear i) h (off 64 i), λ j h. not-both (on clear j) h (off 64 j));
-  }))
-
-  start-more : (R : List Bool) (row : ℕ) → ((i : ℕ) → i < row → paired n rows i ≡ false → on R i ≡ true) → (paired n rows row ≡ false → on R row ≡ true)
-      → (i : ℕ) → i < row + 1 → paired n rows i ≡ false → on R i ≡ true
-  start-more R row old here i l f = ⊎-elim
-      (λ (e : i ≡ row). subst (λ (x : ℕ). on R x ≡ true) (sym e) (here (subst (λ (x : ℕ). paired n rows x ≡ false) e f)))
-      (λ (l' : i < row). old i l' f)
-      (last-or-before (omega arith))
-
-  pub skip : (R C R' C' : List Bool) (row : ℕ) → R' ≡ R → C' ≡ C → row < n → paired n rows row ≡ true → ReachInv R C row → ReachInv R' C' (row + 1)
-  skip R C R' C' row p q l t v = subst (λ (r : List Bool). ReachInv r C' (row + 1)) (sym p) (subst (λ (d : List Bool). ReachInv R d (row + 1)) (sym q) (record {
-    at-most = omega arith;
-    grown = v .grown;
-    start = start-more R row (v .start) (λ f. not-both (paired n rows row) t f);
-    within = v .within;
-  }))
-
-  pub turn : (R C R₁ C₁ R' C' : List Bool) (row : ℕ) → R' ≡ R₁ → C' ≡ C₁ → row < n → paired n rows row ≡ false → ReachInv R C row → RowDone c n cols row R C R₁ C₁ → ReachInv R' C' (row + 1)
-  turn R C R₁ C₁ R' C' row p q l t v d = subst (λ (r : List Bool). ReachInv r C' (row + 1)) (sym p) (subst (λ (e : List Bool). ReachInv R₁ e (row + 1)) (sym q) (record {
-    at-most = omega arith;
-    grown = grown-more c n cols clear clear R C R₁ C₁ (v .grown) (d .grown);
-    start = start-more R₁ row (λ i l f. d .grown .keep-row i (v .start i l f)) (λ _. d .here);
-    within = λ P Q k f. d .least P Q k (v .within P Q k f) (f row l t);
-  }))
-
-  pub finish : (R C : List Bool) (row : ℕ) → n ≤ row → ReachInv R C row → Reached n s R C
-  finish R C row le v = record {
-    len-row = v .grown .len-row ∙ length-replicate 64 false;
-    len-col = v .grown .len-col ∙ length-replicate 64 false;
-    start = λ i l f. v .start i (omega arith) f;
-    closed = record {
-      row = λ i j hi hj h z. v .grown .new-row i j hi hj h (off 64 i) z;
-      col = λ j hj h l. v .grown .new-col j hj h (off 64 j) l;
-    };
-    within = v .within;
+module _ (c : List Float) (n : ℕ) (cols : List ℕ) (F R₀ C₀ : List Bool) where
+  pub begin : Looked 0 c n cols F R₀ C₀ R₀ C₀
+  begin = record {
+    here = λ i l. absurd (not-suc-le-zero l);
+    own = λ i j l. absurd (not-suc-le-zero l);
+    grown = grown-none c n cols R₀ C₀;
+    least = λ P Q k w s. w;
   }
+
+  pub looked-at : (k : ℕ) (R C R' C' : List Bool) → R' ≡ R → C' ≡ C → Looked k c n cols F R₀ C₀ R C → Looked k c n cols F R₀ C₀ R' C'
+  looked-at k R C R' C' p q v = subst (λ (r : List Bool). Looked k c n cols F R₀ C₀ r C') (sym p) (subst (λ (d : List Bool). Looked k c n cols F R₀ C₀ R d) (sym q) v)
+
+  pub whole : (k : ℕ) (R C : List Bool) → k ≡ n → Looked k c n cols F R₀ C₀ R C → Looked n c n cols F R₀ C₀ R C
+  whole k R C e v = subst (λ (x : ℕ). Looked x c n cols F R₀ C₀ R C) e v
+
+  module _ (k : ℕ) (R C : List Bool) (v : Looked k c n cols F R₀ C₀ R C) where
+    pub skip : on F k ≡ false → Looked (k + 1) c n cols F R₀ C₀ R C
+    skip f = record {
+      here = λ i l. below-more k (λ i. on F i ≡ true → on R i ≡ true) (v .here) (λ t. not-both (on F k) t f) i (omega arith);
+      own = λ i j l hj. below-more k (λ i. on F i ≡ true → zeroAt c i j ≡ true → on C j ≡ true) (λ i l. v .own i j l hj) (λ t. not-both (on F k) t f) i (omega arith);
+      grown = v .grown;
+      least = λ P Q h w s. v .least P Q h w (λ i l. s i (omega arith));
+    }
+
+    pub turn : (R' C' : List Bool) → on F k ≡ true → (b : Bool) → b ≡ false → RowDone b c n cols k R C R' C' → Looked (k + 1) c n cols F R₀ C₀ R' C'
+    turn R' C' t b f h = let d = subst (λ (x : Bool). RowDone x c n cols k R C R' C') f h in record {
+      here = λ i l. below-more k (λ i. on F i ≡ true → on R' i ≡ true) (λ i l f. d .end .grown .keep-row i (v .here i l f)) (λ _. d .end .here) i (omega arith);
+      own = λ i j l hj. below-more k (λ i. on F i ≡ true → zeroAt c i j ≡ true → on C' j ≡ true)
+          (λ i l f z. d .end .grown .keep-col j (v .own i j l hj f z)) (λ _ z. d .end .own j hj z) i (omega arith);
+      grown = grown-more c n cols R₀ C₀ R C R' C' (v .grown) (d .end .grown);
+      least = λ P Q h w s. d .least P Q h (v .least P Q h w (λ i l. s i (omega arith))) (s k (omega arith) t);
+    }
+
+    pub met-at : (R' C' : List Bool) → on F k ≡ true → (b : Bool) → b ≡ true → RowDone b c n cols k R C R' C' → Met k c n cols F R₀ C₀ R' C'
+    met-at R' C' t b e h = let d = subst (λ (x : Bool). RowDone x c n cols k R C R' C') e h in record { R₁ = R; C₁ = C; before = v; row-on = t; least = d .least; met = d .end }

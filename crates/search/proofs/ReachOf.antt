@@ -6,7 +6,7 @@ use mathlib.Core.List.{List}
 use mathlib.Core.Logic.{⊎-elim}
 use native.Mathlib.Omega.{arith}
 use native.Mathlib.Nat.{not-suc-le-zero}
-use lib.ListN.{length, getD, set, length-set, length-replicate}
+use lib.ListN.{length, getD, set, length-set, replicate, length-replicate}
 use borrow.Author.Tests.{ltb-true, lt-ltb, not-true}
 use Rattle.square.specs.Index.{any, on}
 use Rattle.square.specs.Square.{zeroAt}
@@ -16,7 +16,10 @@ use Rattle.paths.specs.State.{State, paired}
 use Rattle.search.specs.Inner.{holes}
 use Rattle.search.specs.Steps.{Closed, Reached, Within}
 use Rattle.search.proofs.Marks.{holes-set, on-set-cases}
-use Rattle.search.proofs.ReachCode.{clear}
+
+-- no marks
+abbrev pub clear : List Bool
+clear = replicate 64 false
 
 -- what a test that fails says: if the first holds, the second does not hold, so its opposite does
 fails : (a b : Bool) → (a && not b) ≡ false → a ≡ true → b ≡ true

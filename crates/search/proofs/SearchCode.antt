@@ -1,21 +1,19 @@
--- The outer loop: its invariant, and what a turn does. Assumes nothing.
+-- The outer loop and the loop of corrections: their invariants, and what a turn does. Assumes nothing.
 use Prim.Native.Nat.{ℕ, suc, _+_, _<_, _≤_}
 use mathlib.Core.Path.{_≡_, refl, sym, ap, _∙_, subst}
-use mathlib.Core.Bool.{Bool, true, false, cond}
+use mathlib.Core.Bool.{Bool, true, false}
 use mathlib.Core.List.{List}
 use mathlib.Core.Logic.{inl, inr}
 use native.Mathlib.Omega.{arith}
-use lib.ListN.{getD}
 use lib.Ieee.{Float}
-use borrow.Author.Tests.{lt-ltb, le-ltb}
 use Rattle.paths.specs.State.{Ok, State, state, paired}
-use Rattle.paths.specs.Path.{NoPath, Path}
-use Rattle.paths.specs.Inner.{Tried}
+use Rattle.paths.specs.Path.{Path}
 use Rattle.paths.proofs.PathLaws.{path-ok}
-use Rattle.search.specs.Steps.{Blocked, Corr, Stop, Reached, leastOver, usefulOf, shiftOf}
-use Rattle.search.specs.Inner.{Weighed}
+use Rattle.search.specs.Steps.{Blocked, Corr, Stop, leastOver, usefulOf, shiftOf}
+use Rattle.search.specs.Inner.{Corrected, CorrsEnd, Corrs, Looked, Marked, none, more}
 use Rattle.search.specs.Run.{Run, correct, path, stop}
 use Rattle.search.proofs.Bounds.{corr-ok}
+use Rattle.search.proofs.Sought.{again}
 use Rattle.search.proofs.Exists.{measure, measure-is, path-falls, corr-falls}
 
 module _ (n : ℕ) (n64 : n ≤ 64) where
@@ -54,75 +52,89 @@ module _ (n : ℕ) (n64 : n ≤ 64) where
   pub ends : (s₀ s : State) (c p : ℕ) → SearchInv s₀ s c p → Stop n s → Run n s₀ c p s
   ends s₀ s c p v h = counts-at s₀ s (c + 0) c (p + 0) p (omega arith) (omega arith) (v .so-far 0 0 s (stop h))
 
--- ---- the turns, from what the code's calls ensure
-module _ (n : ℕ) (n64 : n ≤ 64) (s₀ : State) (c : List Float) (rows cols : List ℕ) (k p : ℕ) (v : SearchInv n n64 s₀ (state c rows cols) k p) (rows' cols' : List ℕ) (b : Bool) (made : Tried b n c rows cols rows' cols') where
-  module _ (e : b ≡ true) where
-    h : Path n (state c rows cols) (state c rows' cols')
-    h = subst (λ (x : Bool). Tried x n c rows cols rows' cols') e made
+  -- ---- corrections in a row
+  pub corrs-room : {s u : State} {k : ℕ} → Ok n s → Corrs n s k u → Ok n u × (k + measure n u ≤ measure n s)
+  corrs-room ok none = (ok, omega arith)
+  corrs-room ok (more {k} {u} {t} r h) =
+      let w = corrs-room ok r in
+      (corr-ok n n64 (w .0) h, omega (arith, w .1, corr-falls n n64 u t (w .0) h))
 
-    pub path-less : measure n (state c rows' cols') < measure n (state c rows cols)
-    path-less = path-falls n n64 (state c rows cols) (state c rows' cols') (v .ok) h
+  pub corrs-turn : (s₀ s u : State) (c p k : ℕ) → SearchInv s₀ s c p → Corrs n s k u → SearchInv s₀ u (c + k) p
+  corrs-turn s₀ s u c p k v none = let e : c ≡ c + 0 = omega arith in subst (λ (x : ℕ). SearchInv s₀ s x p) e v
+  corrs-turn s₀ s u c p k v (more {k = j} {u = w} {t = t} r h) =
+      let e : (c + j) + 1 ≡ c + (j + 1) = omega arith in
+      subst (λ (x : ℕ). SearchInv s₀ t x p) e (corr-turn s₀ w t (c + j) p (corrs-turn s₀ s w c p j v r) h)
 
-    pub path-again : SearchInv n n64 s₀ (state c rows' cols') k (p + 1)
-    path-again = path-turn n n64 s₀ (state c rows cols) (state c rows' cols') k p v h
+pub full-end : (n : ℕ) (n64 : n ≤ 64) (s₀ : State) (c : List Float) (rows cols : List ℕ) (k p : ℕ) → SearchInv n n64 s₀ (state c rows cols) k p → ((i : ℕ) → i < n → paired n rows i ≡ true)
+    → Run n s₀ k p (state c rows cols)
+full-end n n64 s₀ c rows cols k p v h = ends n n64 s₀ (state c rows cols) k p v (inl h)
 
-  -- no path was found: the tables are as they were
-  module _ (e : b ≡ false) (free : (i : ℕ) × (i < n) × (n ≤ getD rows i 0)) (c' : List Float) (u : Bool) (left : Weighed u n c rows' cols' c') where
-    tried : Tried false n c rows cols rows' cols'
-    tried = subst (λ (x : Bool). Tried x n c rows cols rows' cols') e made
+-- ---- the turns of the outer loop, from what the code's calls ensure
+module _ (n : ℕ) (n64 : n ≤ 64) (s₀ : State) (c : List Float) (rows cols : List ℕ) (k p : ℕ) (v : SearchInv n n64 s₀ (state c rows cols) k p) where
+  pub path-less : (rows' cols' : List ℕ) → Path n (state c rows cols) (state c rows' cols') → measure n (state c rows' cols') < measure n (state c rows cols)
+  path-less rows' cols' h = path-falls n n64 (state c rows cols) (state c rows' cols') (v .ok) h
 
-    same-state : state c rows' cols' ≡ state c rows cols
-    same-state = λ i. record { square = c; rows = tried .0 i; cols = tried .1 i }
+  module _ (b : Bool) (j : ℕ) (c' : List Float) (made : Corrected b n j c rows cols c') where
+    pub corrs-again : SearchInv n n64 s₀ (state c' rows cols) (k + j) p
+    corrs-again = corrs-turn n n64 s₀ (state c rows cols) (state c' rows cols) k p j v (made .corrs)
 
-    now-inv : SearchInv n n64 s₀ (state c rows' cols') k p
-    now-inv = subst (λ (s : State). SearchInv n n64 s₀ s k p) (sym same-state) v
+    pub corrs-fit : j ≤ measure n (state c rows cols)
+    corrs-fit = omega (arith, corrs-room n n64 (v .ok) (made .corrs) .1)
 
-    blocked : (R C : List Bool) → Reached n (state c rows' cols') R C → Blocked n (state c rows' cols') R C
-    blocked R C r = record {
-      row = free .0;
-      row-in = free .1;
-      row-free = subst (λ (t : List ℕ). paired n t (free .0) ≡ false) (sym (tried .0)) (le-ltb (getD rows (free .0) 0) n (free .2));
-      no-path = subst (λ (s : State). NoPath n s) (sym same-state) (tried .2);
-      reached = r;
-    }
+    pub corrs-less : b ≡ false → measure n (state c' rows cols) < measure n (state c rows cols)
+    corrs-less e =
+        let l : 0 < j = subst (λ (x : Bool). CorrsEnd x n j (state c' rows cols)) e (made .end) in
+        omega (arith, corrs-room n n64 (v .ok) (made .corrs) .1)
 
-    module _ (ut : u ≡ true) where
-      w : Weighed true n c rows' cols' c'
-      w = subst (λ (x : Bool). Weighed x n c rows' cols' c') ut left
+    pub stuck-end : b ≡ true → Run n s₀ (k + j) p (state c' rows cols)
+    stuck-end e = ends n n64 s₀ (state c' rows cols) (k + j) p corrs-again (inr (subst (λ (x : Bool). CorrsEnd x n j (state c' rows cols)) e (made .end)))
 
-      corr : Corr n (state c rows' cols') (state c' rows' cols')
+-- ---- the turns of the corrections
+pub record CorrInv (n : ℕ) (c₀ : List Float) (rows cols : List ℕ) (c : List Float) (R C : List Bool) (times : ℕ) : Type 0 where
+  pub marked : Marked n c rows cols R C
+  pub corrs : Corrs n (state c₀ rows cols) times (state c rows cols)
+  pub room : times ≤ 4224
+
+module _ (n : ℕ) (c₀ : List Float) (rows cols : List ℕ) where
+  n-of : {c : List Float} {R C : List Bool} → Marked n c rows cols R C → n ≤ 64
+  n-of h = h .ok .tables .n64
+
+  pub corr-begin : (R C : List Bool) → Marked n c₀ rows cols R C → CorrInv n c₀ rows cols c₀ R C 0
+  corr-begin R C h = record { marked = h; corrs = none; room = omega arith }
+
+  module _ (h₀ : Ok n (state c₀ rows cols)) (c : List Float) (R C : List Bool) (times : ℕ) (v : CorrInv n c₀ rows cols c R C times) (m : Float) (e : m ≡ leastOver c n R C) (u : Bool) (f : u ≡ usefulOf m) where
+    use-is : usefulOf (leastOver c n R C) ≡ u
+    use-is = ap usefulOf (sym e) ∙ sym f
+
+    pub corr-stuck : u ≡ false → Corrected true n times c₀ rows cols c
+    corr-stuck g = record { corrs = v .corrs; end = record { R = R; C = C; blocked = v .marked .blocked; no-use = use-is ∙ g } }
+
+    module _ (g : u ≡ true) (c' : List Float) (s : c' ≡ shiftOf n R C m c) where
+      corr : Corr n (state c rows cols) (state c' rows cols)
       corr = record {
-        R = w .R;
-        C = w .C;
-        blocked = blocked (w .R) (w .C) (w .reached);
-        of-use = w .use-is;
-        result = λ i. record { square = w .result i; rows = rows'; cols = cols' };
+        R = R;
+        C = C;
+        blocked = v .marked .blocked;
+        of-use = use-is ∙ g;
+        result = λ i. record { square = (s ∙ ap (λ (x : Float). shiftOf n R C x c) e) i; rows = rows; cols = cols };
       }
 
-      pub corr-less : measure n (state c' rows' cols') < measure n (state c rows cols)
-      corr-less = subst (λ (s : State). measure n (state c' rows' cols') < measure n s) same-state
-          (corr-falls n n64 (state c rows' cols') (state c' rows' cols') (now-inv .ok) corr)
+      corrs-now : Corrs n (state c₀ rows cols) (times + 1) (state c' rows cols)
+      corrs-now = more (v .corrs) corr
 
-      pub corr-again : SearchInv n n64 s₀ (state c' rows' cols') (k + 1) p
-      corr-again = corr-turn n n64 s₀ (state c rows' cols') (state c' rows' cols') k p now-inv corr
+      pub corr-met : Corrected false n (times + 1) c₀ rows cols c'
+      corr-met = record { corrs = corrs-now; end = omega arith }
 
-    pub stuck-end : u ≡ false → Run n s₀ k p (state c' rows' cols')
-    stuck-end uf =
-        let w : Weighed false n c rows' cols' c' = subst (λ (x : Bool). Weighed x n c rows' cols' c') uf left in
-        subst (λ (x : List Float). Run n s₀ k p (state x rows' cols')) (sym (w .result))
-        (ends n n64 s₀ (state c rows' cols') k p now-inv (inr (record { R = w .R; C = w .C; blocked = blocked (w .R) (w .C) (w .reached); no-use = w .use-is })))
-
-pub full-end : (n : ℕ) (n64 : n ≤ 64) (s₀ : State) (c : List Float) (rows cols : List ℕ) (k p : ℕ) → SearchInv n n64 s₀ (state c rows cols) k p → ((i : ℕ) → i < n → getD rows i 0 < n)
-    → Run n s₀ k p (state c rows cols)
-full-end n n64 s₀ c rows cols k p v h = ends n n64 s₀ (state c rows cols) k p v (inl (λ i l. lt-ltb (getD rows i 0) n (h i l)))
-
--- ---- what steps F and G leave
-pub weighed : (n : ℕ) (c : List Float) (rows cols : List ℕ) (R C : List Bool) → Reached n (state c rows cols) R C → (m : Float) → m ≡ leastOver c n R C
-    → (u b : Bool) → u ≡ usefulOf m → u ≡ b → (c' : List Float) → c' ≡ cond b (shiftOf n R C m c) c → Weighed b n c rows cols c'
-weighed n c rows cols R C r m e u b f g c' h = record {
-  R = R;
-  C = C;
-  reached = r;
-  use-is = ap usefulOf (sym e) ∙ sym f ∙ g;
-  result = subst (λ (x : Float). c' ≡ cond b (shiftOf n R C x c) c) e h;
-}
+      pub corr-again : (R' C' : List Bool) → Looked n c' n cols R R C R' C' → CorrInv n c₀ rows cols c' R' C' (times + 1)
+      corr-again R' C' l =
+          let n64 = h₀ .tables .n64 in
+          let ok' = corr-ok n n64 (v .marked .ok) corr in
+          record {
+            marked = record {
+              ok = ok';
+              blocked = subst (λ (x : List Float). Blocked n (state x rows cols) R' C') (sym s)
+                  (again n c rows cols R C (v .marked) m R' C' (subst (λ (x : List Float). Looked n x n cols R R C R' C') s l));
+            };
+            corrs = corrs-now;
+            room = omega (arith, corrs-room n n64 h₀ corrs-now .1, measure-is n (state c₀ rows cols));
+          }

@@ -1,32 +1,34 @@
 // Steps D to G of the search. The square lies at stride 64; in the tables n or more is no partner; sets of rows and columns are marks.
 ghost use mathlib.Core.Path.{_≡_};
-ghost use mathlib.Core.Bool.{true, false};
+ghost use mathlib.Core.Bool.{false};
 ghost use Prim.Native.Nat.{ℕ, _≤_, _<_};
-ghost use lib.ListN.{length, getD, replicate};
+ghost use mathlib.Core.List.{List};
+ghost use lib.ListN.{length};
 ghost use Rattle.square.specs.Index.{on};
 ghost use Rattle.square.specs.Square.{inRow, line};
 ghost use Rattle.paths.specs.State.{state, Ok};
-ghost use Rattle.search.specs.Steps.{Reached, leastRow, leastOver, usefulOf, shiftedOf, correction, shiftOf};
+ghost use Rattle.search.specs.Steps.{leastRow, leastOver, usefulOf, shiftedOf, correction, shiftOf};
 ghost use Rattle.search.specs.Run.{Run};
-ghost use Rattle.search.specs.Inner.{RowDone, ColDone, Weighed};
+ghost use Rattle.search.specs.Inner.{Freed, RowDone, ColDone, Looked, Met, Marked, Corrected};
 
-// Step D: whether all n rows are paired.
-fn full(rows: &[usize; 64], n: usize) -> bool
-    requires { ⌜ n ≤ 64 ⌝ }
-    ensures all { λ r. ⌜ (r ≡ true → (i : ℕ) → i < n → getD (now (rows .entry)) i 0 < n) ⌝ }
-    ensures some { λ r. ⌜ (r ≡ false → (i : ℕ) × (i < n) × (n ≤ getD (now (rows .entry)) i 0)) ⌝ }
+// Step D: marks the free rows, and says whether there is one.
+fn free_rows(rows: &[usize; 64], n: usize, free: &mut [bool; 64]) -> bool
+    requires { ⌜ (n ≤ 64) × (length (now free) ≡ 64) ⌝ }
+    ensures { λ r. ⌜ Freed r n (now (rows .entry)) (now (free .exit)) ⌝ }
 {
+    let mut some = false;
     let mut i = 0usize;
     while i < n {
+        free[i] = n <= rows[i];
         if n <= rows[i] {
-            return false;
+            some = true;
         }
         i += 1;
     }
-    true
+    some
 }
 
-// The row routine of step F: marks a row, and every column that a zero leads to.
+// The row routine of step F: marks a row, and every column that a zero leads to. True where a free column is met: it stops there.
 fn reach_row(
     c: &[f64; 4096],
     n: usize,
@@ -34,20 +36,23 @@ fn reach_row(
     row: usize,
     rs: &mut [bool; 64],
     cs: &mut [bool; 64],
-)
+) -> bool
     requires { ⌜ (n ≤ 64) × (row < n) × (length (now rs) ≡ 64) × (length (now cs) ≡ 64) ⌝ }
-    ensures { λ r. ⌜ RowDone (now (c .entry)) n (now (cols .entry)) row (now (rs .entry)) (now (cs .entry)) (now (rs .exit)) (now (cs .exit)) ⌝ }
+    ensures { λ r. ⌜ RowDone r (now (c .entry)) n (now (cols .entry)) row (now (rs .entry)) (now (cs .entry)) (now (rs .exit)) (now (cs .exit)) ⌝ }
 {
     rs[row] = true;
     let mut col = 0usize;
     while col < n {
-        if !cs[col] {
-            if floats::is_zero(c[row * 64 + col]) {
-                reach_col(c, n, cols, col, rs, cs);
+        if floats::is_zero(c[row * 64 + col]) {
+            if !cs[col] {
+                if reach_col(c, n, cols, col, rs, cs) {
+                    return true;
+                }
             }
         }
         col += 1;
     }
+    false
 }
 
 // The column routine: marks a column that is not marked yet, and goes on to its partner row.
@@ -58,38 +63,44 @@ fn reach_col(
     col: usize,
     rs: &mut [bool; 64],
     cs: &mut [bool; 64],
-)
+) -> bool
     requires { ⌜ (n ≤ 64) × (col < n) × (length (now rs) ≡ 64) × (length (now cs) ≡ 64) × (on (now cs) col ≡ false) ⌝ }
-    ensures { λ r. ⌜ ColDone (now (c .entry)) n (now (cols .entry)) col (now (rs .entry)) (now (cs .entry)) (now (rs .exit)) (now (cs .exit)) ⌝ }
+    ensures { λ r. ⌜ ColDone r (now (c .entry)) n (now (cols .entry)) col (now (rs .entry)) (now (cs .entry)) (now (rs .exit)) (now (cs .exit)) ⌝ }
 {
     cs[col] = true;
     let row = cols[col];
-    if row < n {
-        if !rs[row] {
-            reach_row(c, n, cols, row, rs, cs);
-        }
+    if n <= row {
+        return true;
     }
+    if rs[row] {
+        return false;
+    }
+    reach_row(c, n, cols, row, rs, cs)
 }
 
-// Step F's sets, into marks that are all clear.
-fn reach(
+// Goes through the rows marked in `look`, and gives the one at which a free column is met, or n.
+fn spread(
     c: &[f64; 4096],
     n: usize,
-    rows: &[usize; 64],
     cols: &[usize; 64],
+    look: &[bool; 64],
     rs: &mut [bool; 64],
     cs: &mut [bool; 64],
-)
-    requires { ⌜ (n ≤ 64) × (now rs ≡ replicate 64 false) × (now cs ≡ replicate 64 false) ⌝ }
-    ensures { λ r. ⌜ Reached n (state (now (c .entry)) (now (rows .entry)) (now (cols .entry))) (now (rs .exit)) (now (cs .exit)) ⌝ }
+) -> usize
+    requires { ⌜ (n ≤ 64) × (length (now rs) ≡ 64) × (length (now cs) ≡ 64) ⌝ }
+    ensures { λ r. ⌜ ((r < n → Met r (now (c .entry)) n (now (cols .entry)) (now (look .entry)) (now (rs .entry)) (now (cs .entry)) (now (rs .exit)) (now (cs .exit)))
+        × (n ≤ r → Looked n (now (c .entry)) n (now (cols .entry)) (now (look .entry)) (now (rs .entry)) (now (cs .entry)) (now (rs .exit)) (now (cs .exit)))) ⌝ }
 {
     let mut row = 0usize;
     while row < n {
-        if n <= rows[row] {
-            reach_row(c, n, cols, row, rs, cs);
+        if look[row] {
+            if reach_row(c, n, cols, row, rs, cs) {
+                return row;
+            }
         }
         row += 1;
     }
+    row
 }
 
 // The smaller of m and a row's entries outside the marked columns, NaN passed over.
@@ -174,20 +185,39 @@ fn shift(c: &mut [f64; 4096], n: usize, rs: &[bool; 64], cs: &[bool; 64], m: f64
     }
 }
 
-// Steps F and G: one cost correction, or false where the minimum is of no use.
-fn correct(c: &mut [f64; 4096], n: usize, rows: &[usize; 64], cols: &[usize; 64]) -> bool
-    requires { ⌜ n ≤ 64 ⌝ }
-    ensures { λ r. ⌜ Weighed r n (now (c .entry)) (now (rows .entry)) (now (cols .entry)) (now (c .exit)) ⌝ }
+// How many corrections were made, and whether the minimum was of no use in the end.
+pub struct Corrections {
+    pub times: usize,
+    pub stuck: bool,
+}
+
+// Steps F and G, from step F's sets on: a correction keeps what was reached, so the sets only grow, until a free column is reached.
+fn correct(
+    c: &mut [f64; 4096],
+    n: usize,
+    cols: &[usize; 64],
+    rs: &mut [bool; 64],
+    cs: &mut [bool; 64],
+) -> Corrections
+    requires { ⌜ ((rows : List ℕ) × Marked n (now c) rows (now cols) (now rs) (now cs)) ⌝ }
+    ensures { λ r. ⌜ ((rows : List ℕ) → Marked n (now (c .entry)) rows (now (cols .entry)) (now (rs .entry)) (now (cs .entry)) → Corrected (r .stuck) n (r .times) (now (c .entry)) rows (now (cols .entry)) (now (c .exit))) ⌝ }
 {
-    let mut rs = [false; 64];
-    let mut cs = [false; 64];
-    reach(c, n, rows, cols, &mut rs, &mut cs);
-    let m = least_over(c, n, &rs, &cs);
-    if !useful(m) {
-        return false;
+    let mut times = 0usize;
+    loop {
+        let m = least_over(c, n, rs, cs);
+        if !useful(m) {
+            return Corrections { times, stuck: true };
+        }
+        shift(c, n, rs, cs, m);
+        times += 1;
+        let look = *rs;
+        if spread(c, n, cols, &look, rs, cs) < n {
+            return Corrections {
+                times,
+                stuck: false,
+            };
+        }
     }
-    shift(c, n, &rs, &cs, m);
-    true
 }
 
 // How many corrections and path changes were made.
@@ -208,14 +238,20 @@ pub fn search(
 {
     let mut corrections = 0usize;
     let mut paths = 0usize;
-    while !full(rows, n) {
-        if paths::augment(c, n, rows, cols) {
+    let mut free = [false; 64];
+    while free_rows(rows, n, &mut free) {
+        let mut rs = [false; 64];
+        let mut cs = [false; 64];
+        let start = spread(c, n, cols, &free, &mut rs, &mut cs);
+        if start < n {
+            paths::augment(c, n, rows, cols, start);
             paths += 1;
         } else {
-            if !correct(c, n, rows, cols) {
+            let made = correct(c, n, cols, &mut rs, &mut cs);
+            corrections += made.times;
+            if made.stuck {
                 break;
             }
-            corrections += 1;
         }
     }
     Counts { corrections, paths }

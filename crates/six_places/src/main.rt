@@ -1,5 +1,6 @@
 // Decimal texts beside Python's "%.6f": a float's 16 hex digits a line in, its text a line out.
 use decimal_text::write_six;
+use float_bits::float_of;
 use lines::input;
 use lines::output;
 use lines::output::Writer;
@@ -7,7 +8,6 @@ use lines::session;
 use lines::session::Session;
 use numerals::digits::Number;
 use numerals::digits::hex;
-use numerals::patterns::float_of;
 
 fn say_text(to: &mut [u8; 65536], w: Writer, x: f64) -> Writer {
     let mut letters = [0u8; 320];

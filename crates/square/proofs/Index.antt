@@ -70,11 +70,14 @@ first (suc k) F = ⊎-elim
     (first k F)
 
 -- ---- whether one passes
-or-right : (a b : Bool) → b ≡ true → (a || b) ≡ true
+pub or-left : (a b : Bool) → a ≡ true → (a || b) ≡ true
+or-left a b e = rw e
+
+pub or-right : (a b : Bool) → b ≡ true → (a || b) ≡ true
 or-right true b e = refl
 or-right false b e = e
 
-or-cases : (a b : Bool) → (a || b) ≡ true → (a ≡ true) ⊎ (b ≡ true)
+pub or-cases : (a b : Bool) → (a || b) ≡ true → (a ≡ true) ⊎ (b ≡ true)
 or-cases true b e = inl refl
 or-cases false b e = inr e
 

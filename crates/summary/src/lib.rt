@@ -1,9 +1,9 @@
 // What a table of scores says of an accumulator: how well all truth is covered so far, and the scores of its totals.
 use events::Tally;
 use lifecycle::TrackLifecycle;
-use numerals::wholes::size;
 use rows::ExtendedMOTAccumulator;
 use slots::Slot;
+use wholes::size;
 ghost use mathlib.Core.Path.{_≡_};
 ghost use mathlib.Core.Bool.{true};
 ghost use Prim.Native.Nat.{_+_, _-_, _<_, _≤_};

@@ -6,7 +6,7 @@ ghost use Rattle.table_text.specs.Bars.{mostForty};
 use decimal_text::write_six;
 use lines::output;
 use lines::output::Writer;
-use numerals::wholes::size;
+use wholes::size;
 
 // How many spaces stand beside a text in a column; none where it is too long.
 fn room(width: usize, length: usize) -> usize

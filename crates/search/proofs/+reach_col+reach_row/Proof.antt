@@ -1,12 +1,13 @@
 -- `search::reach_row` and `search::reach_col` meet their contracts and end: each call of the column routine marks a column. Assumes nothing.
 use Prim.Native.Nat.{ℕ, _<_, _+_, _-_}
 use lib.ListN.{length-set}
-use mathlib.Core.Path.{sym, _∙_}
+use mathlib.Core.Path.{refl, sym, _∙_}
 use mathlib.Core.Bool.{true}
 use mathlib.Core.Logic.{⊎-elim}
 use native.Mathlib.Omega.{arith}
 use borrow.Author.Tests.{not-true, not-false}
 use Rattle.square.specs.Square.{zeroAt}
+use Rattle.square.proofs.Truth.{not-both}
 use Rattle.search.specs.Inner.{holes}
 use Rattle.search.proofs.Marks as marks
 use borrow.Fn.Kinds.{In}
@@ -58,11 +59,28 @@ reach-col-element-copy-out-row : (t : ℕ) → reach-col-lts.Need-element-copy-o
 ) (reach-col-at t) reach-col.Post
 reach-col-element-copy-out-row t c = omega arith
 
+reach-col-returns :
+    (t : ℕ) →
+    reach-col-lts.Need-returns (reach-row-below t, reach-row.Post) (reach-col-at t) reach-col.Post
+reach-col-returns t c =
+    let s = c .before .before in
+    marks.col-free (s .args .c .now) (s .args .n) (s .args .cols .now) (s .args .col) (s .args .rs .now) (s .args .cs .now) (s .pre .1 .1) (omega arith) (c .if1 .taken)
+
 reach-col-element-copy-out-if2 : (t : ℕ) → reach-col-lts.Need-element-copy-out-if2 (
   reach-row-below t,
   reach-row.Post,
 ) (reach-col-at t) reach-col.Post
 reach-col-element-copy-out-if2 t c = omega arith
+
+reach-col-returns-2 :
+    (t : ℕ) →
+    reach-col-lts.Need-returns-2
+    (reach-row-below t, reach-row.Post)
+    (reach-col-at t)
+    reach-col.Post
+reach-col-returns-2 t c =
+    let s = c .before .before .before .before in
+    marks.col-none (s .args .c .now) (s .args .n) (s .args .cols .now) (s .args .col) (s .args .rs .now) (s .args .cs .now) (omega arith) (c .before .before .if1 .left) (c .if2 .taken)
 
 reach-col-reach-row-requires : (t : ℕ) → reach-col-lts.Need-reach-row-requires (
   reach-row-below t,
@@ -73,23 +91,6 @@ reach-col-reach-row-requires t c κs =
     let h = marks.holes-set (s .args .cs .now) (s .args .col) (omega arith) (s .pre .1 .4) in
     (omega (arith, h, s .pre .0), (s .pre .1 .0, omega arith, s .pre .1 .2, length-set (s .args .cs .now) (s .args .col) true ∙ s .pre .1 .3))
 
-reach-col-returns :
-    (t : ℕ) →
-    reach-col-lts.Need-returns (reach-row-below t, reach-row.Post) (reach-col-at t) reach-col.Post
-reach-col-returns t c =
-    let s = c .before .before .before .before .before .before .before in
-    marks.col-call (s .args .c .now) (s .args .n) (s .args .cols .now) (s .args .col) (s .args .rs .now) (s .args .cs .now) _ _ (s .pre .1 .1) (omega arith) (omega arith) (c .reach-row .ensures)
-
-reach-col-returns-2 :
-    (t : ℕ) →
-    reach-col-lts.Need-returns-2
-    (reach-row-below t, reach-row.Post)
-    (reach-col-at t)
-    reach-col.Post
-reach-col-returns-2 t c =
-    let s = c .before .before .before .before in
-    marks.col-none (s .args .c .now) (s .args .n) (s .args .cols .now) (s .args .col) (s .args .rs .now) (s .args .cs .now) (omega arith) (λ _. not-false _ (c .if2 .left))
-
 reach-col-returns-3 :
     (t : ℕ) →
     reach-col-lts.Need-returns-3
@@ -97,8 +98,8 @@ reach-col-returns-3 :
     (reach-col-at t)
     reach-col.Post
 reach-col-returns-3 t c =
-    let s = c .before .before in
-    marks.col-none (s .args .c .now) (s .args .n) (s .args .cols .now) (s .args .col) (s .args .rs .now) (s .args .cs .now) (omega arith) (λ l. absurd (omega arith))
+    let s = c .before .before .before .before .before .before .before in
+    marks.col-call (s .args .c .now) (s .args .n) (s .args .cols .now) (s .args .col) (s .args .rs .now) (s .args .cs .now) _ _ (s .pre .1 .1) (omega arith) (c .before .before .before .before .before .if1 .left) _ (c .reach-row .ensures)
 
 abbrev reach-row-Inv-loop : reach-row-lts.InvT-loop
 reach-row-Inv-loop c n cols row rs₀ cs₀ col₀ rs cs col = marks.RowInv c n cols row rs₀ cs₀ rs cs col
@@ -121,14 +122,6 @@ reach-row-loop-holds : (t : ℕ) → reach-row-lts.Need-loop-holds (
   reach-col.Post,
 ) (reach-row-at t) reach-row.Post reach-row-Inv-loop reach-row-μ-loop
 reach-row-loop-holds t c = marks.row-start (c .args .c .now) (c .args .n) (c .args .cols .now) (c .args .row) (c .args .rs .now) (c .args .cs .now) (omega arith)
-
-reach-row-element-copy-out-if1 : (t : ℕ) → reach-row-lts.Need-element-copy-out-if1 (
-  is-zero-reads.Asked,
-  is-zero-reads.Learnt,
-  reach-col-below t,
-  reach-col.Post,
-) (reach-row-at t) reach-row.Post reach-row-Inv-loop reach-row-μ-loop
-reach-row-element-copy-out-if1 t c = omega arith
 
 reach-row-mul-is-zero : (t : ℕ) → reach-row-lts.Need-mul-is-zero (
   is-zero-reads.Asked,
@@ -170,6 +163,14 @@ reach-row-is-zero-requires : (t : ℕ) → reach-row-lts.Need-is-zero-requires (
 ) (reach-row-at t) reach-row.Post reach-row-Inv-loop reach-row-μ-loop
 reach-row-is-zero-requires t c κs = tt
 
+reach-row-element-copy-out-if2 : (t : ℕ) → reach-row-lts.Need-element-copy-out-if2 (
+  is-zero-reads.Asked,
+  is-zero-reads.Learnt,
+  reach-col-below t,
+  reach-col.Post,
+) (reach-row-at t) reach-row.Post reach-row-Inv-loop reach-row-μ-loop
+reach-row-element-copy-out-if2 t c = omega arith
+
 reach-row-reach-col-requires : (t : ℕ) → reach-row-lts.Need-reach-col-requires (
   is-zero-reads.Asked,
   is-zero-reads.Learnt,
@@ -180,7 +181,20 @@ reach-row-reach-col-requires t c κs =
     let s = c .before .before .before .before .before .before .before .before .before in
     let v = c .before .before .before .before .before .before .before .before .loop .inv in
     let h = marks.holes-mono (s .args .cs .now) (c .before .before .before .before .before .before .before .before .loop .cs) (v .grown .len-col) (v .grown .keep-col) in
-    (omega (arith, h, s .pre .0), (s .pre .1 .0, omega arith, v .grown .len-row ∙ length-set (s .args .rs .now) (s .args .row) true ∙ s .pre .1 .2, v .grown .len-col ∙ s .pre .1 .3, not-true _ (c .before .before .before .before .before .if1 .taken)))
+    (omega (arith, h, s .pre .0), (s .pre .1 .0, omega arith, v .grown .len-row ∙ length-set (s .args .rs .now) (s .args .row) true ∙ s .pre .1 .2, v .grown .len-col ∙ s .pre .1 .3, not-true _ (c .before .before .if2 .taken)))
+
+reach-row-returns : (t : ℕ) → reach-row-lts.Need-returns (
+  is-zero-reads.Asked,
+  is-zero-reads.Learnt,
+  reach-col-below t,
+  reach-col.Post,
+) (reach-row-at t) reach-row.Post reach-row-Inv-loop reach-row-μ-loop
+unfolding zeroAt
+reach-row-returns t c =
+    let a = c .before .before .before .before .before .before in
+    let s = a .before .before .before .before .before in
+    let v = a .before .before .before .before .loop .inv in
+    marks.row-met (s .args .c .now) (s .args .n) (s .args .cols .now) (s .args .row) _ _ _ _ _ _ _ (s .pre .1 .1) (a .before .before .before .loop-test .taken) v (sym (a .before .is-zero .ensures) ∙ a .if1 .taken) (s .args .rs .now) refl _ (c .if3 .taken) (c .before .reach-col .ensures)
 
 reach-row-add-col : (t : ℕ) → reach-row-lts.Need-add-col (
   is-zero-reads.Asked,
@@ -206,30 +220,31 @@ reach-row-loop-again : (t : ℕ) → reach-row-lts.Need-loop-again (
 ) (reach-row-at t) reach-row.Post reach-row-Inv-loop reach-row-μ-loop
 unfolding zeroAt
 reach-row-loop-again t c =
-    let s = c .before .before .before .before in
-    let v = c .before .before .before .loop .inv in
-    let k = c .before .before .before .loop .col in
+    let s = c .before .before .before .before .before in
+    let v = c .before .before .before .before .loop .inv in
+    let k = c .before .before .before .before .loop .col in
+    let e = c .before .is-zero .ensures in
     let lt : k < s .args .n = omega arith in
     ⊎-elim
     (λ w. marks.row-at (s .args .c .now) (s .args .n) (s .args .cols .now) (s .args .row) (k + 1) _ _ _ _ _ _ (w .7) (w .8)
-    (marks.row-call (s .args .c .now) (s .args .n) (s .args .cols .now) (s .args .row) k _ _ _ _ _ _ (s .pre .1 .1) lt v (sym (w .2 .ensures) ∙ w .3 .taken) (w .6 .ensures)))
+    (marks.row-call (s .args .c .now) (s .args .n) (s .args .cols .now) (s .args .row) k _ _ _ _ _ _ (s .pre .1 .1) lt v (sym e ∙ w .0 .taken) _ (w .6 .left) (w .5 .ensures)))
     (λ u. ⊎-elim
-    (λ w. marks.row-at (s .args .c .now) (s .args .n) (s .args .cols .now) (s .args .row) (k + 1) _ _ _ _ _ _ (w .4) (w .5)
-    (marks.row-skip (s .args .c .now) (s .args .n) (s .args .cols .now) (s .args .row) k _ _ _ _ lt v (λ z. marks.not-both _ z (sym (w .2 .ensures) ∙ w .3 .left))))
+    (λ w. marks.row-at (s .args .c .now) (s .args .n) (s .args .cols .now) (s .args .row) (k + 1) _ _ _ _ _ _ (w .3) (w .4)
+    (marks.row-skip (s .args .c .now) (s .args .n) (s .args .cols .now) (s .args .row) k _ _ _ _ lt v (λ _. not-false _ (w .2 .left))))
     (λ w. marks.row-at (s .args .c .now) (s .args .n) (s .args .cols .now) (s .args .row) (k + 1) _ _ _ _ _ _ (w .1) (w .2)
-    (marks.row-skip (s .args .c .now) (s .args .n) (s .args .cols .now) (s .args .row) k _ _ _ _ lt v (λ _. not-false _ (w .0 .left))))
+    (marks.row-skip (s .args .c .now) (s .args .n) (s .args .cols .now) (s .args .row) k _ _ _ _ lt v (λ z. not-both _ z (sym e ∙ w .0 .left))))
     u)
     (c .if1 .came)
 
-reach-row-returns : (t : ℕ) → reach-row-lts.Need-returns (
+reach-row-returns-2 : (t : ℕ) → reach-row-lts.Need-returns-2 (
   is-zero-reads.Asked,
   is-zero-reads.Learnt,
   reach-col-below t,
   reach-col.Post,
 ) (reach-row-at t) reach-row.Post reach-row-Inv-loop reach-row-μ-loop
-reach-row-returns t c =
+reach-row-returns-2 t c =
     let s = c .before .before in
-    marks.row-end (s .args .c .now) (s .args .n) (s .args .cols .now) (s .args .row) _ (s .args .rs .now) (s .args .cs .now) _ _ (omega arith) (c .loop-test .left) (c .before .loop .inv)
+    marks.row-end (s .args .c .now) (s .args .n) (s .args .cols .now) (s .args .row) _ (s .args .rs .now) (s .args .cs .now) _ _ (c .loop-test .left) (c .before .loop .inv)
 
 pub +reach-col+reach-row-spec : {M : Type 1} → statement M
 +reach-col+reach-row-spec = close μ-reach-col μ-reach-row (λ t. reach-col-lts.spec (
@@ -241,10 +256,10 @@ pub +reach-col+reach-row-spec : {M : Type 1} → statement M
     (reach-col-element-write-cs t)
     (reach-col-mul-row t)
     (reach-col-element-copy-out-row t)
-    (reach-col-element-copy-out-if2 t)
-    (reach-col-reach-row-requires t)
     (reach-col-returns t)
+    (reach-col-element-copy-out-if2 t)
     (reach-col-returns-2 t)
+    (reach-col-reach-row-requires t)
     (reach-col-returns-3 t))
     λ t. reach-row-lts.spec
     (is-zero-reads.Asked, is-zero-reads.Learnt, reach-col-below t, reach-col.Post)
@@ -254,14 +269,15 @@ pub +reach-col+reach-row-spec : {M : Type 1} → statement M
     reach-row-μ-loop
     (reach-row-element-write-rs t)
     (reach-row-loop-holds t)
-    (reach-row-element-copy-out-if1 t)
     (reach-row-mul-is-zero t)
     (reach-row-add-is-zero t)
     (reach-row-mul-is-zero-2 t)
     (reach-row-element-copy-out-is-zero t)
     (reach-row-is-zero-requires t)
+    (reach-row-element-copy-out-if2 t)
     (reach-row-reach-col-requires t)
+    (reach-row-returns t)
     (reach-row-add-col t)
     (reach-row-loop-less t)
     (reach-row-loop-again t)
-    (reach-row-returns t)
+    (reach-row-returns-2 t)

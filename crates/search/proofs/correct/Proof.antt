@@ -1,30 +1,82 @@
--- `search::correct` meets its contract. Assumes nothing.
-use mathlib.Core.Path.{refl}
+-- `search::correct` meets its contract, whatever table of rows goes with the marks. Assumes nothing.
+use Prim.Native.Nat.{ℕ, _-_}
+use mathlib.Core.List.{List}
+use native.Mathlib.Omega.{arith}
 use borrow.Author.Tests.{not-true, not-false}
-use Rattle.search.proofs.SearchCode.{weighed}
-use borrow.Author.Needs.{needs}
+use Rattle.search.specs.Inner.{Marked}
+use Rattle.search.proofs.SearchCode as code
 use Rattle.search.proofs.correct.Statement.{statement}
 use Rattle.search.proofs.correct.Tie as tie
 
-reach-requires : tie.Need-reach-requires
-reach-requires c κs = search needs
+abbrev Inv-loop : tie.InvT-loop
+Inv-loop c₀ n cols rs₀ cs₀ times₀ c rs cs times = (rows : List ℕ) → Marked n c₀ rows cols rs₀ cs₀ → code.CorrInv n c₀ rows cols c rs cs times
 
-least-over-requires : tie.Need-least-over-requires
-least-over-requires c κs = search needs
+abbrev μ-loop : tie.MeasureT-loop
+μ-loop c₀ n cols rs₀ cs₀ times₀ c rs cs times = 4225 - times
 
-useful-requires : tie.Need-useful-requires
-useful-requires c κs = search needs
+loop-holds : tie.Need-loop-holds Inv-loop μ-loop
+loop-holds c rows h = code.corr-begin _ _ rows _ _ _ h
 
-returns : tie.Need-returns
-returns c = weighed _ _ _ _ _ _ (c .before .before .before .before .before .before .reach .ensures) _ (c .before .before .least-over .ensures) _ _ (c .before .useful .ensures) (not-true _ (c .if1 .taken)) _ refl
+least-over-requires : tie.Need-least-over-requires Inv-loop μ-loop
+least-over-requires c κs = c .before .before .before .before .pre .1 .ok .tables .n64
 
-shift-requires : tie.Need-shift-requires
-shift-requires c κs = search needs
+useful-requires : tie.Need-useful-requires Inv-loop μ-loop
+useful-requires c κs = tt
 
-returns-2 : tie.Need-returns-2
-returns-2 c = weighed _ _ _ _ _ _ (c .before .before .before .before .before .before .before .before .before .before .reach .ensures) _ (c .before .before .before .before .before .before .least-over .ensures) _ _ (c .before .before .before .before .before .useful .ensures) (not-false _ (c .before .before .before .before .if1 .left)) _ (c .shift .ensures)
+returns : tie.Need-returns Inv-loop μ-loop
+returns c rows h =
+    let b = c .before .before in
+    let a = b .before .before .before .before in
+    code.corr-stuck _ _ rows _ (h .ok) _ _ _ _ (a .loop .inv rows h) _ (b .least-over .ensures) _ (c .before .useful .ensures) (not-true _ (c .if1 .taken))
+
+shift-requires : tie.Need-shift-requires Inv-loop μ-loop
+shift-requires c κs = c .before .before .before .before .before .before .before .before .before .before .pre .1 .ok .tables .n64
+
+add-times : tie.Need-add-times Inv-loop μ-loop
+add-times c =
+    let a = c .before .before .before .before .before .before .before .before .before .before in
+    omega (arith, a .loop .inv (a .before .pre .0) (a .before .pre .1) .room)
+
+spread-requires : tie.Need-spread-requires Inv-loop μ-loop
+spread-requires c κs =
+    let a = c .before .before .before .before .before .before .before .before .before .before .before .before .before .before .before in
+    let r = a .loop .inv (a .before .pre .0) (a .before .pre .1) .marked .blocked .reached in
+    (a .before .pre .1 .ok .tables .n64, r .len-row, r .len-col)
+
+returns-2 : tie.Need-returns-2 Inv-loop μ-loop
+returns-2 c rows h =
+    let d = c .before .before .before .before .before .before .before in
+    let u = d .before .before .before .before in
+    let b = u .before .before in
+    let a = b .before .before .before .before in
+    code.corr-met _ _ rows _ (h .ok) _ _ _ _ (a .loop .inv rows h) _ (b .least-over .ensures) _ (u .before .useful .ensures) (not-false _ (u .if1 .left)) _ (d .shift .ensures)
+
+loop-less : tie.Need-loop-less Inv-loop μ-loop
+loop-less c =
+    let a = c .before .before .before .before .before .before .before .before .before .before .before .before .before .before .before .before .before in
+    omega (arith, a .loop .inv (a .before .pre .0) (a .before .pre .1) .room)
+
+loop-again : tie.Need-loop-again Inv-loop μ-loop
+loop-again c rows h =
+    let d = c .before .before .before .before .before .before .before in
+    let u = d .before .before .before .before in
+    let b = u .before .before in
+    let a = b .before .before .before .before in
+    code.corr-again _ _ rows _ (h .ok) _ _ _ _ (a .loop .inv rows h) _ (b .least-over .ensures) _ (u .before .useful .ensures) (not-false _ (u .if1 .left)) _ (d .shift .ensures) _ _ (c .before .spread .ensures .1 (c .if2 .left))
 
 pub correct-spec : {M : Type 1} → statement M
 correct-spec =
     tie.close
-    (tie.spec reach-requires least-over-requires useful-requires returns shift-requires returns-2)
+    (tie.spec
+    Inv-loop
+    μ-loop
+    loop-holds
+    least-over-requires
+    useful-requires
+    returns
+    shift-requires
+    add-times
+    spread-requires
+    returns-2
+    loop-less
+    loop-again)

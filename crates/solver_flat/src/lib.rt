@@ -1,0 +1,71 @@
+// The solver's answer laid out in 261 places of a lent run, for the border to C.
+ghost use mathlib.Core.Path.{_≡_};
+ghost use Prim.Native.Nat.{_+_, _≤_};
+ghost use lib.ListN.{length};
+ghost use Rattle.solver_flat.specs.Flat.{countsOf, rowsOf, colsOf, flatAfter};
+ghost use Rattle.solver_flat.specs.Inner.{Pasted, Full};
+use optimize::Assignment;
+use optimize::AssignmentResult;
+
+// A list over the places from `at` on.
+fn copy_at(list: &[usize; 64], out: &mut [usize], at: usize)
+    requires { ⌜ (at + 64 ≤ length (now out)) × (length (now list) ≡ 64) ⌝ }
+    ensures { λ _. ⌜ Pasted (now (out .entry)) at (now (list .entry)) 64 (now (out .exit)) ⌝ }
+{
+    let mut i = 0;
+    while i < 64 {
+        out[at + i] = list[i];
+        i += 1;
+    }
+}
+
+// The pairs' rows over the places from `at` on, and their columns.
+fn copy_rows_at(pairs: [Assignment; 64], out: &mut [usize], at: usize)
+    requires { ⌜ (at + 64 ≤ length (now out)) × (length pairs ≡ 64) ⌝ }
+    ensures { λ _. ⌜ Pasted (now (out .entry)) at (rowsOf pairs) 64 (now (out .exit)) ⌝ }
+{
+    let mut i = 0;
+    while i < 64 {
+        let pair = pairs[i];
+        out[at + i] = pair.row_idx;
+        i += 1;
+    }
+}
+
+fn copy_cols_at(pairs: [Assignment; 64], out: &mut [usize], at: usize)
+    requires { ⌜ (at + 64 ≤ length (now out)) × (length pairs ≡ 64) ⌝ }
+    ensures { λ _. ⌜ Pasted (now (out .entry)) at (colsOf pairs) 64 (now (out .exit)) ⌝ }
+{
+    let mut i = 0;
+    while i < 64 {
+        let pair = pairs[i];
+        out[at + i] = pair.col_idx;
+        i += 1;
+    }
+}
+
+fn write_counts(r: AssignmentResult, out: &mut [usize])
+    requires { ⌜ 5 ≤ length (now out) ⌝ }
+    ensures { λ _. ⌜ Pasted (now (out .entry)) 0 (countsOf r) 5 (now (out .exit)) ⌝ }
+{
+    out[0] = r.num_assignments;
+    out[1] = r.num_unmatched_rows;
+    out[2] = r.num_unmatched_cols;
+    out[3] = r.corrections;
+    out[4] = r.paths;
+}
+
+// The counts first, since a reader needs them to know how much of each list counts.
+pub fn write_flat(r: AssignmentResult, out: &mut [usize])
+    requires { ⌜ (261 ≤ length (now out)) × Full r ⌝ }
+    ensures { λ _. ⌜ now (out .exit) ≡ flatAfter r (now (out .entry)) ⌝ }
+{
+    write_counts(r, out);
+    let pairs = r.assignments;
+    copy_rows_at(pairs, out, 5);
+    copy_cols_at(pairs, out, 69);
+    let unmatched_rows = r.unmatched_rows;
+    copy_at(&unmatched_rows, out, 133);
+    let unmatched_cols = r.unmatched_cols;
+    copy_at(&unmatched_cols, out, 197);
+}
