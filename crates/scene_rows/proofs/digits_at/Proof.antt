@@ -1,9 +1,9 @@
--- `scenes::digits_at` meets its contract. Assumes nothing.
+-- `scene_rows::digits_at` meets its contract. Assumes nothing.
 use mathlib.Core.Path.{sym}
 use lib.ListN.{List·getD-eq-default}
 use borrow.Author.Needs.{needs}
-use Rattle.scenes.proofs.digits_at.Statement.{statement}
-use Rattle.scenes.proofs.digits_at.Tie as tie
+use Rattle.scene_rows.proofs.digits_at.Statement.{statement}
+use Rattle.scene_rows.proofs.digits_at.Tie as tie
 
 mul-result : tie.Need-mul-result
 mul-result c = search needs

@@ -1,11 +1,11 @@
--- `scenes::side` meets its contract. Assumes nothing.
+-- `scene_rows::side` meets its contract. Assumes nothing.
 use mathlib.Core.Path.{sym, _∙_}
 use Prim.Native.Nat.{_<_}
 use native.Mathlib.Omega.{arith}
-use Rattle.scenes.proofs.Rows.{none-laid}
+use Rattle.scene_rows.proofs.Rows.{none-laid}
 use borrow.Author.Needs.{needs}
-use Rattle.scenes.proofs.side.Statement.{statement}
-use Rattle.scenes.proofs.side.Tie as tie
+use Rattle.scene_rows.proofs.side.Statement.{statement}
+use Rattle.scene_rows.proofs.side.Tie as tie
 
 rows-there-requires : tie.Need-rows-there-requires
 rows-there-requires c κs = search needs

@@ -1,5 +1,5 @@
 -- Rows of a table, laid one behind the other. Assumes nothing.
-use mathlib.Core.Path.{_≡_, refl, sym, _∙_}
+use mathlib.Core.Path.{_≡_, refl, _∙_}
 use mathlib.Core.List.{List, [], _∷_, _++_, append-assoc}
 use Prim.Native.Nat.{ℕ, _+_, _*_, _≤_, _<_}
 use native.Mathlib.Numerals.{add-one}
@@ -7,11 +7,10 @@ use native.Mathlib.Omega.{arith}
 use lib.IntN.{ℤ, pos}
 use lib.Ieee.{Float}
 use lib.ListN.{length, take, set, getD, length-set}
-use lib.Seq.{take-suc-set, length-take-le}
+use lib.Seq.{take-suc-set}
 use mir.Syntax.{w32}
 use mir.Val.{SFits}
-use Rattle.scenes.specs.Digits.{idOf, boxOf, idsOf, boxesOf}
-use Rattle.scenes.specs.Frames.{Laid, Lent}
+use Rattle.scene_rows.specs.Digits.{idOf, boxOf, idsOf, boxesOf, Laid}
 
 pub pos-fits : (n : ℕ) → n < 2147483648 → SFits w32 (pos n)
 pos-fits n h = record { sfits = h }
@@ -51,9 +50,3 @@ module _ (rows : List ℕ) (first i : ℕ) where
 
   pub row-laid : (ids : List ℤ) (z : ℤ) (boxes after : List Float) → i < length ids → Laid rows first i ids boxes → z ≡ pos (idOf (getD rows (first + i) 0)) → take (i * 4 + 4) after ≡ take (i * 4) boxes ++ boxOf (getD rows (first + i) 0) → Laid rows first (i + 1) (set ids i z) after
   row-laid ids z boxes after h l q r = record { the-ids = id-laid ids z h (l .the-ids) q; the-boxes = box-laid boxes after (l .the-boxes) r }
-
-pub lent : {n floats : ℕ} {ids : List ℤ} {boxes : List Float} → n ≤ 64 → floats ≡ n * 4 → 64 ≤ length ids → 256 ≤ length boxes → Lent n floats ids boxes
-lent {n} {floats} {ids} {boxes} most four i b =
-    let here : n ≤ length ids = omega arith in
-    let there : floats ≤ length boxes = omega arith in
-    record { most = most; four = four; ids-there = (here, sym (length-take-le n ids here)); boxes-there = (there, sym (length-take-le floats boxes there)) }

@@ -1,9 +1,9 @@
--- `scenes::put_box` meets its contract. Assumes nothing.
+-- `scene_rows::put_box` meets its contract. Assumes nothing.
 use lib.ListN.{length-set}
-use Rattle.scenes.proofs.Rows.{four-laid}
+use Rattle.scene_rows.proofs.Rows.{four-laid}
 use borrow.Author.Needs.{needs}
-use Rattle.scenes.proofs.put_box.Statement.{statement}
-use Rattle.scenes.proofs.put_box.Tie as tie
+use Rattle.scene_rows.proofs.put_box.Statement.{statement}
+use Rattle.scene_rows.proofs.put_box.Tie as tie
 
 corner-requires : tie.Need-corner-requires
 corner-requires c κs = search needs

@@ -1,10 +1,10 @@
--- `scenes::rows_there` meets its contract. Assumes nothing.
+-- `scene_rows::rows_there` meets its contract. Assumes nothing.
 use borrow.Author.Tests.{le-leb, lt-leb}
 use borrow.Author.Needs.{needs}
 use native.Mathlib.Omega.{arith}
-use Rattle.scenes.specs.Digits.{sizeOf}
-use Rattle.scenes.proofs.rows_there.Statement.{statement}
-use Rattle.scenes.proofs.rows_there.Tie as tie
+use Rattle.scene_rows.specs.Digits.{sizeOf}
+use Rattle.scene_rows.proofs.rows_there.Statement.{statement}
+use Rattle.scene_rows.proofs.rows_there.Tie as tie
 
 returns : tie.Need-returns
 unfolding sizeOf

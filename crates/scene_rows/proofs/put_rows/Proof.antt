@@ -1,13 +1,13 @@
--- `scenes::put_rows` meets its contract: the rows passed so far are laid. Assumes nothing.
+-- `scene_rows::put_rows` meets its contract: the rows passed so far are laid. Assumes nothing.
 use mathlib.Core.Path.{_≡_, refl, _∙_}
 use Prim.Native.Nat.{_*_, _-_, _≤_}
 use borrow.Author.Needs.{needs}
 use lib.ListN.{length}
 use mir.Facts.{toZ-ofZ}
-use Rattle.scenes.specs.Frames.{Laid}
-use Rattle.scenes.proofs.Rows.{pos-fits, none-laid, row-laid}
-use Rattle.scenes.proofs.put_rows.Statement.{statement}
-use Rattle.scenes.proofs.put_rows.Tie as tie
+use Rattle.scene_rows.specs.Digits.{Laid}
+use Rattle.scene_rows.proofs.Rows.{pos-fits, none-laid, row-laid}
+use Rattle.scene_rows.proofs.put_rows.Statement.{statement}
+use Rattle.scene_rows.proofs.put_rows.Tie as tie
 
 abbrev Inv-loop : tie.InvT-loop
 Inv-loop rows first n ids₀ boxes₀ i₀ ids boxes i = ((i ≤ n) × (length ids ≡ length ids₀) × (length boxes ≡ length boxes₀)) × Laid rows first i ids boxes

@@ -1,10 +1,10 @@
--- `scenes::id` meets its contract. Assumes nothing.
+-- `scene_rows::id` meets its contract. Assumes nothing.
 use Prim.Native.Nat.{_/_}
 use borrow.Author.Needs.{needs}
 use mir.Facts.{toZ-ofZ}
-use Rattle.scenes.proofs.Rows.{pos-fits}
-use Rattle.scenes.proofs.id.Statement.{statement}
-use Rattle.scenes.proofs.id.Tie as tie
+use Rattle.scene_rows.proofs.Rows.{pos-fits}
+use Rattle.scene_rows.proofs.id.Statement.{statement}
+use Rattle.scene_rows.proofs.id.Tie as tie
 
 cast-result : tie.Need-cast-result
 cast-result c = search needs

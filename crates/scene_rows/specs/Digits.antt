@@ -1,11 +1,12 @@
 -- How a table's numbers are read. A box: its id, then x_min, y_min, x_max and y_max in four digits each.
 use mathlib.Core.Bool.{cond}
+use mathlib.Core.Path.{_≡_}
 use mathlib.Core.List.{List, [], _∷_, _++_}
 use Prim.Native.Nat.{ℕ, zero, suc, _+_, _*_, _-_, _/_, _%_}
 use lib.Dec.{leb}
 use lib.IntN.{ℤ, pos}
 use lib.Ieee.{Float, binary64, ofInt}
-use lib.ListN.{getD}
+use lib.ListN.{take, getD}
 
 abbrev pub idOf : ℕ → ℕ
 idOf digits = digits / 10000000000000000
@@ -34,3 +35,8 @@ boxesOf rows first (suc n) = boxesOf rows first n ++ boxOf (getD rows (first + n
 -- all of n rows from a place on, or none where they are not all there or are too many for a frame
 unfoldable pub sizeOf : ℕ → ℕ → ℕ → ℕ
 sizeOf rows first n = cond (leb n 64) (cond (leb first rows) (cond (leb n (rows - first)) n 0) 0) 0
+
+-- the ids and the box floats of n rows from a place on stand at the start of two runs
+pub record Laid (rows : List ℕ) (first n : ℕ) (ids : List ℤ) (boxes : List Float) : Type 0 where
+  pub the-ids : take n ids ≡ idsOf rows first n
+  pub the-boxes : take (n * 4) boxes ≡ boxesOf rows first n
