@@ -1,14 +1,14 @@
--- `metrics_update::book` meets its contract. Assumes nothing.
+-- `metrics_booking::book` meets its contract. Assumes nothing.
 use mathlib.Core.Path.{refl, sym, ap, _∙_}
 use Prim.Native.Nat.{_≤_}
 use mir.Facts.{toZ-ofZ}
 use Rattle.partners.specs.declared.SeenTruths.{SeenTruths}
 use Rattle.partners.proofs.Meaning.{seen-few}
 use Rattle.greedy.proofs.Pairings.{pairs-fit, pairs-long, pairs-inside}
-use Rattle.metrics_update.proofs.Steps as law
+use Rattle.metrics_booking.proofs.Steps as law
 use borrow.Author.Needs.{needs}
-use Rattle.metrics_update.proofs.book.Statement.{statement}
-use Rattle.metrics_update.proofs.book.Tie as tie
+use Rattle.metrics_booking.proofs.book.Statement.{statement}
+use Rattle.metrics_booking.proofs.book.Tie as tie
 
 -- the ids seen have a table of 256
 few : (c : tie.Else1) → c .before .see-truths .result .truths .used ≤ 256
