@@ -11,7 +11,7 @@ use Rattle.iou.specs.declared.Box.{Box}
 use Rattle.iou.specs.declared.Distance.the-variants.{Refused, Value}
 use Rattle.optimize.specs.Answer.{emptyOf}
 use Rattle.lifecycle.specs.declared.TrackLifecycle.{TrackLifecycle}
-use Rattle.lifecycle.specs.declared.Class.the-variants.{MostlyTracked, PartiallyTracked}
+use Rattle.lifecycle_parts.specs.declared.Class.the-variants.{MostlyTracked, PartiallyTracked}
 use Rattle.lifecycle.specs.Lifecycle.{fresh}
 use Rattle.extended.specs.Play.{Frame}
 use Rattle.events.specs.declared.Event.{Event}

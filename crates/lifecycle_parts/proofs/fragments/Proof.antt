@@ -1,12 +1,12 @@
--- `lifecycle::fragments` meets its contract. Assumes nothing.
+-- `lifecycle_parts::fragments` meets its contract. Assumes nothing.
 use mathlib.Core.Path.{_≡_}
 use mathlib.Core.Bool.{true, false}
 use lib.IntN.{pos}
 use lib.Signed.{ltZ}
 use mir.Facts.{toZ-ofZ}
-use Rattle.lifecycle.specs.Lifecycle.{fragments}
-use Rattle.lifecycle.proofs.fragments.Statement.{statement}
-use Rattle.lifecycle.proofs.fragments.Tie as tie
+use Rattle.lifecycle_parts.specs.Parts.{fragments}
+use Rattle.lifecycle_parts.proofs.fragments.Statement.{statement}
+use Rattle.lifecycle_parts.proofs.fragments.Tie as tie
 
 returns : tie.Need-returns
 unfolding fragments

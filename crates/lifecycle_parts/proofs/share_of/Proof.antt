@@ -1,12 +1,12 @@
--- `lifecycle::share_of` meets its contract. Assumes nothing.
+-- `lifecycle_parts::share_of` meets its contract. Assumes nothing.
 use lib.Ieee.{ofBits}
 use mir.Facts.{toZ-ofZ}
-use Rattle.lifecycle.specs.Lifecycle.{shareOf}
-use Rattle.lifecycle.proofs.Zeros.{zero-yes, zero-no}
+use Rattle.lifecycle_parts.specs.Parts.{shareOf}
+use Rattle.lifecycle_parts.proofs.Zeros.{zero-yes, zero-no}
 use mir.Facts.{toZ-ofZ}
 use borrow.Author.Needs.{needs}
-use Rattle.lifecycle.proofs.share_of.Statement.{statement}
-use Rattle.lifecycle.proofs.share_of.Tie as tie
+use Rattle.lifecycle_parts.proofs.share_of.Statement.{statement}
+use Rattle.lifecycle_parts.proofs.share_of.Tie as tie
 
 returns : tie.Need-returns
 unfolding shareOf ofBits

@@ -1,8 +1,8 @@
--- `lifecycle::class_of` meets its contract. Assumes nothing.
+-- `lifecycle_parts::class_of` meets its contract. Assumes nothing.
 use lib.Ieee.{ofBits}
-use Rattle.lifecycle.specs.Lifecycle.{classOf}
-use Rattle.lifecycle.proofs.class_of.Statement.{statement}
-use Rattle.lifecycle.proofs.class_of.Tie as tie
+use Rattle.lifecycle_parts.specs.Parts.{classOf}
+use Rattle.lifecycle_parts.proofs.class_of.Statement.{statement}
+use Rattle.lifecycle_parts.proofs.class_of.Tie as tie
 
 returns : tie.Need-returns
 unfolding classOf ofBits
