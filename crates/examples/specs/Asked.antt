@@ -4,7 +4,7 @@ use Prim.Native.Nat.{ℕ}
 use mathlib.Core.List.{List, [], _∷_}
 use lib.IntN.{ℤ}
 use lib.Ieee.{Float}
-use Rattle.iou.specs.declared.Box.{Box}
+use Rattle.boxes.specs.declared.Box.{Box}
 use Rattle.iou.specs.declared.Distance.{Distance}
 use Rattle.iou.specs.Boxes.{iouDistanceOf}
 use Rattle.optimize.specs.declared.AssignmentResult.{AssignmentResult}

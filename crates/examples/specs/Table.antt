@@ -7,7 +7,7 @@ use lib.IntN.{ℤ, pos, negsuc}
 use lib.ListN.{replicate}
 use lib.Ieee.{Float, binary64, fin, nan, sub, div}
 use Rattle.floats.specs.Float.{zero64, one64}
-use Rattle.iou.specs.declared.Box.{Box}
+use Rattle.boxes.specs.declared.Box.{Box}
 use Rattle.iou.specs.declared.Distance.the-variants.{Refused, Value}
 use Rattle.optimize.specs.Answer.{emptyOf}
 use Rattle.lifecycle.specs.declared.TrackLifecycle.{TrackLifecycle}

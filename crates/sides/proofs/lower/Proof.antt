@@ -1,6 +1,6 @@
--- `iou::lower` meets its contract. Assumes nothing.
-use Rattle.iou.proofs.lower.Statement.{statement}
-use Rattle.iou.proofs.lower.Tie as tie
+-- `sides::lower` meets its contract. Assumes nothing.
+use Rattle.sides.proofs.lower.Statement.{statement}
+use Rattle.sides.proofs.lower.Tie as tie
 
 returns : tie.Need-returns
 returns c = rw (c .if1 .taken)

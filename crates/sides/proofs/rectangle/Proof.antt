@@ -1,8 +1,8 @@
--- `iou::rectangle` meets its contract. Assumes nothing.
+-- `sides::rectangle` meets its contract. Assumes nothing.
 use lib.Ieee.{ofBits}
-use Rattle.iou.specs.Boxes.{rectangleOf}
-use Rattle.iou.proofs.rectangle.Statement.{statement}
-use Rattle.iou.proofs.rectangle.Tie as tie
+use Rattle.sides.specs.Sides.{rectangleOf}
+use Rattle.sides.proofs.rectangle.Statement.{statement}
+use Rattle.sides.proofs.rectangle.Tie as tie
 
 returns : tie.Need-returns
 unfolding rectangleOf ofBits

@@ -1,8 +1,8 @@
--- `iou::clamp` meets its contract. Assumes nothing.
+-- `sides::clamp` meets its contract. Assumes nothing.
 use lib.Ieee.{ofBits}
-use Rattle.iou.proofs.Nan.{clamp-is-max}
-use Rattle.iou.proofs.clamp.Statement.{statement}
-use Rattle.iou.proofs.clamp.Tie as tie
+use Rattle.sides.proofs.OneTest.{clamp-is-max}
+use Rattle.sides.proofs.clamp.Statement.{statement}
+use Rattle.sides.proofs.clamp.Tie as tie
 
 returns : tie.Need-returns
 unfolding ofBits

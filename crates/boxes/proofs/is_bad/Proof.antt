@@ -1,7 +1,7 @@
--- `iou::is_bad` meets its contract. Assumes nothing.
-use Rattle.iou.specs.Boxes.{badBox}
-use Rattle.iou.proofs.is_bad.Statement.{statement}
-use Rattle.iou.proofs.is_bad.Tie as tie
+-- `boxes::is_bad` meets its contract. Assumes nothing.
+use Rattle.boxes.specs.Boxes.{badBox}
+use Rattle.boxes.proofs.is_bad.Statement.{statement}
+use Rattle.boxes.proofs.is_bad.Tie as tie
 
 returns : tie.Need-returns
 unfolding badBox

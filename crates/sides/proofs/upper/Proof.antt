@@ -1,6 +1,6 @@
--- `iou::upper` meets its contract. Assumes nothing.
-use Rattle.iou.proofs.upper.Statement.{statement}
-use Rattle.iou.proofs.upper.Tie as tie
+-- `sides::upper` meets its contract. Assumes nothing.
+use Rattle.sides.proofs.upper.Statement.{statement}
+use Rattle.sides.proofs.upper.Tie as tie
 
 returns : tie.Need-returns
 returns c = rw (c .if1 .taken)
