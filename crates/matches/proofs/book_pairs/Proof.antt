@@ -1,14 +1,14 @@
--- `partners::book_pairs` meets its contract. The pairs passed are booked in the table in use, and the rest are to come. Assumes nothing.
+-- `matches::book_pairs` meets its contract. The pairs passed are booked in the table in use, and the rest are to come. Assumes nothing.
 use mathlib.Core.Path.{sym}
 use Prim.Native.Nat.{_≤_, _-_}
 use native.Mathlib.Omega.{arith}
 use lib.ListN.{length, getD, length-map}
 use lib.Seq.{length-take-le}
 use Rattle.partners.specs.Partners.{truthsOf, pairsOf, pairAt}
 use Rattle.partners.proofs.Turns as law
 use borrow.Author.Needs.{needs}
-use Rattle.partners.proofs.book_pairs.Statement.{statement}
-use Rattle.partners.proofs.book_pairs.Tie as tie
+use Rattle.matches.proofs.book_pairs.Statement.{statement}
+use Rattle.matches.proofs.book_pairs.Tie as tie
 
 abbrev Inv-loop : tie.InvT-loop
 Inv-loop old-ids old-lasts old-used pairs object-ids hypothesis-ids w ids₀ lasts₀ used₀ switched₀ i₀ ids lasts used switched i =
