@@ -4,13 +4,13 @@ use Prim.Native.Nat.{ℕ}
 use mathlib.Core.List.{List, [], _∷_}
 use lib.IntN.{ℤ}
 use lib.Ieee.{Float}
-use Rattle.iou.specs.declared.Box.{Box}
+use Rattle.boxes.specs.declared.Box.{Box}
 use Rattle.iou.specs.declared.Distance.{Distance}
 use Rattle.iou.specs.Boxes.{iouDistanceOf}
 use Rattle.optimize.specs.declared.AssignmentResult.{AssignmentResult}
 use Rattle.solver.specs.Solution.{solutionOf}
 use Rattle.lifecycle.specs.declared.TrackLifecycle.{TrackLifecycle}
-use Rattle.lifecycle.specs.declared.Class.{Class}
+use Rattle.lifecycle_parts.specs.declared.Class.{Class}
 use Rattle.lifecycle.specs.Lifecycle.{updateMatchedOf, updateMissedOf, coverageOf, classOf}
 use Rattle.rows.specs.declared.ExtendedMOTAccumulator.{ExtendedMOTAccumulator}
 use Rattle.rows.specs.Rows as rows

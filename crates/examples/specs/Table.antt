@@ -7,11 +7,11 @@ use lib.IntN.{ℤ, pos, negsuc}
 use lib.ListN.{replicate}
 use lib.Ieee.{Float, binary64, fin, nan, sub, div}
 use Rattle.floats.specs.Float.{zero64, one64}
-use Rattle.iou.specs.declared.Box.{Box}
+use Rattle.boxes.specs.declared.Box.{Box}
 use Rattle.iou.specs.declared.Distance.the-variants.{Refused, Value}
 use Rattle.optimize.specs.Answer.{emptyOf}
 use Rattle.lifecycle.specs.declared.TrackLifecycle.{TrackLifecycle}
-use Rattle.lifecycle.specs.declared.Class.the-variants.{MostlyTracked, PartiallyTracked}
+use Rattle.lifecycle_parts.specs.declared.Class.the-variants.{MostlyTracked, PartiallyTracked}
 use Rattle.lifecycle.specs.Lifecycle.{fresh}
 use Rattle.extended.specs.Play.{Frame}
 use Rattle.events.specs.declared.Event.{Event}

@@ -15,8 +15,8 @@ use mir.Val.{SFits, toZ}
 use mir.Facts.{toZ-ofZ}
 use Rattle.counts.specs.Counts.{fits}
 use Rattle.lifecycle.specs.declared.TrackLifecycle.{TrackLifecycle}
-use Rattle.lifecycle.specs.declared.Class.{Class}
-use Rattle.lifecycle.specs.declared.Class.the-variants.{MostlyTracked, PartiallyTracked, MostlyLost}
+use Rattle.lifecycle_parts.specs.declared.Class.{Class}
+use Rattle.lifecycle_parts.specs.declared.Class.the-variants.{MostlyTracked, PartiallyTracked, MostlyLost}
 use Rattle.lifecycle.specs.Lifecycle.{soundCounts, sharedOf, classOf}
 use Rattle.slots.specs.declared.Slot.{Slot}
 use Rattle.slots.specs.Slots.{noSlot, countsSound, soundOf}

@@ -6,7 +6,7 @@ use lib.IntN.{ℤ, pos, natAbs}
 use lib.ListN.{getD}
 use Rattle.counts.specs.Counts.{fits}
 use Rattle.lifecycle.specs.declared.TrackLifecycle.{TrackLifecycle}
-use Rattle.lifecycle.specs.declared.Class.{Class}
+use Rattle.lifecycle_parts.specs.declared.Class.{Class}
 use Rattle.lifecycle.specs.Lifecycle.{sharedOf, classOf, classTotals}
 use Rattle.slots.specs.declared.Slot.{Slot}
 use Rattle.slots.specs.Slots.{noSlot}

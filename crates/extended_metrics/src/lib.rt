@@ -1,7 +1,7 @@
 // How many objects were mostly tracked, partly or mostly lost, and how often their tracks broke in all.
 // Ported from norfair-rs, internal/motmetrics/accumulator.rs, which follows py-motmetrics (NOTICE).
-use lifecycle::Class;
 use lifecycle::TrackLifecycle;
+use lifecycle_parts::Class;
 use rows::ExtendedMOTAccumulator;
 use slots::Slot;
 ghost use mathlib.Core.Path.{_≡_};
@@ -60,7 +60,7 @@ fn added(t: Tally, it: TrackLifecycle, k: usize) -> Tally
     requires { ⌜ (k ≤ 256) × Below t k × (nonNeg (it .fragmentations) ≡ true) ⌝ }
     ensures { λ r. ⌜ (r ≡ addedOf t it) × Below r (k + 1) ⌝ }
 {
-    let c = of_class(lifecycle::class_of(it.share()));
+    let c = of_class(lifecycle_parts::class_of(it.share()));
     let more = sizes::size(it.fragmentations);
     Tally {
         tracked: t.tracked + c.tracked,

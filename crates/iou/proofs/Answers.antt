@@ -4,7 +4,7 @@ use mathlib.Core.Bool.{Bool, true, false, cond, _||_}
 use mathlib.Core.Path.{_≡_, refl, ap, _∙_}
 use lib.Ieee.{Float}
 use Rattle.floats.specs.Float.{zero64}
-use Rattle.iou.specs.declared.Box.{Box}
+use Rattle.boxes.specs.declared.Box.{Box}
 use Rattle.iou.specs.declared.Distance.{Distance}
 use Rattle.iou.specs.declared.Distance.the-variants.{Refused, Value}
 use Rattle.iou.specs.Boxes.{badBox, distanceOf, iouDistanceOf, numberOf, valueOf, distanceNo, distanceIn, Answered}

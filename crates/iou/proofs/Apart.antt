@@ -17,7 +17,7 @@ use Rattle.floats.specs.Float.{one64, zero64}
 use Rattle.floats.specs.Whole.{IsWhole}
 use Rattle.floats.proofs.Order.{zero-of}
 use Rattle.floats.proofs.Whole.{whole-le}
-use Rattle.iou.specs.declared.Box.{Box}
+use Rattle.boxes.specs.declared.Box.{Box}
 use Rattle.iou.specs.declared.Distance.the-variants.{Value}
 use Rattle.iou.specs.Boxes.{badBox, areaOf, intersectionOf, unionOf, awayOf, distanceOf, iouDistanceOf}
 use Rattle.iou.specs.Whole.{Corners, InRange, HasCorners, areaZ, overlapZ, intersectionZ, unionZ}

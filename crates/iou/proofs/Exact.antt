@@ -10,7 +10,7 @@ use lib.Ieee.{Float, binary64, sub, mul, lt}
 use Rattle.floats.specs.Float.{zero64, minOf, maxOf}
 use Rattle.floats.specs.Whole.{IsWhole, minZ, maxZ}
 use Rattle.floats.proofs.Whole.{at-value, whole-add, whole-sub, whole-mul, whole-lt, whole-min, whole-max}
-use Rattle.iou.specs.declared.Box.{Box}
+use Rattle.boxes.specs.declared.Box.{Box}
 use Rattle.iou.specs.Boxes.{areaOf, rectangleOf, intersectionOf, unionOf}
 use Rattle.iou.specs.Whole.{Corners, InRange, HasCorners, areaZ, overlapZ, intersectionZ, unionZ}
 use Rattle.iou.proofs.Integers.{abs-add, abs-sub, abs-mul, abs-max, abs-min, overlap-size, clipped, clipped-product}

@@ -1,11 +1,10 @@
 -- A NaN coordinate makes its box's area a NaN, and that decides both measures, whatever the intersection is. Assumes nothing.
 use mathlib.Core.Path.{_≡_, refl, sym, ap, _∙_}
-use mathlib.Core.Bool.{Bool, true, false, cond, not, _||_, true≢false, false≢true}
-use lib.Ieee.{Float, nan, inf, fin, Format, binary64, add, sub, mul, div, eq, lt, le, isNan}
+use mathlib.Core.Bool.{Bool, true, false, cond, _||_, true≢false, false≢true}
+use lib.Ieee.{Float, nan, inf, fin, Format, binary64, add, sub, mul, div, eq, lt, isNan}
 use Rattle.floats.specs.Float.{minOf, maxOf, zero64}
 use Rattle.floats.proofs.Tests.{is-nan}
-use Rattle.floats.proofs.Order.{le-not-lt}
-use Rattle.iou.specs.declared.Box.{Box}
+use Rattle.boxes.specs.declared.Box.{Box}
 use Rattle.iou.specs.declared.Distance.{Distance}
 use Rattle.iou.specs.declared.Distance.the-variants.{Refused, Value}
 use Rattle.iou.specs.Boxes.{badBox, anyNan, areaOf, rectangleOf, intersectionOf, unionOf, awayOf, distanceOf, iouDistanceOf, clampedOf, sharedOf, quotientOf, iouShareOf}
@@ -90,27 +89,6 @@ upper-is-max x y h = rw h
 pub lower-is-min : (x y : Float) → isNan x ≡ false → cond (lt y x) y x ≡ minOf x y
 unfolding minOf
 lower-is-min x y h = rw h
-
--- max(x, 0.0) by one test
-nan-le : (x : Float) → isNan x ≡ true → le zero64 x ≡ false
-unfolding le lt eq
-nan-le x h = rw (is-nan x h)
-
-either : (t : Bool) → cond t zero64 zero64 ≡ zero64
-either true = refl
-either false = refl
-
-number-clamp : (x : Float) (t : Bool) → lt x zero64 ≡ t → cond (not t) x zero64 ≡ cond t zero64 x
-number-clamp x true e = refl
-number-clamp x false e = refl
-
-pub clamp-is-max : (x : Float) → cond (le zero64 x) x zero64 ≡ maxOf x zero64
-unfolding maxOf
-clamp-is-max x = go (isNan x) refl
-  where
-    go : (t : Bool) → isNan x ≡ t → cond (le zero64 x) x zero64 ≡ cond (lt x zero64) zero64 (cond t zero64 x)
-    go true e = rw (nan-le x e) (sym (either (lt x zero64)))
-    go false e = rw (le-not-lt zero64 x (unfold isNan in refl) e) (number-clamp x (lt x zero64) refl)
 
 record Numbers (b : Box) : Type 0 where
   x0 : isNan (b .«x_min») ≡ false

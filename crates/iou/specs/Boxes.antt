@@ -1,27 +1,19 @@
--- Document 01, "Boxes": a definition for each step of its text, over lib.Ieee's binary64.
+-- Document 01, "Boxes": a definition for each step of its text, over lib.Ieee's binary64. Those of one box are those of
+-- `boxes`, those of a side those of `sides`, passed on.
 use Prim.Native.Nat.{ℕ}
 use mathlib.Core.Bool.{Bool, cond, _||_}
 use mathlib.Core.Path.{_≡_}
-use lib.Ieee.{Float, binary64, add, sub, mul, div, lt, le, eq, isNan}
+use lib.Ieee.{Float, binary64, add, sub, mul, div, lt, eq, isNan}
 use Rattle.floats.specs.Float.{minOf, maxOf, zero64, one64}
-use Rattle.iou.specs.declared.Box.{Box}
+use Rattle.boxes.specs.declared.Box.{Box}
+unfoldable pub use Rattle.boxes.specs.Boxes.{badBox, areaOf}
+unfoldable pub use Rattle.sides.specs.Sides.{rectangleOf}
 use Rattle.iou.specs.declared.Distance.{Distance}
 use Rattle.iou.specs.declared.Distance.the-variants.{Refused, Value}
-
--- refusal 4: x_max <= x_min or y_max <= y_min, both false where a NaN stands
-unfoldable pub badBox : Box → Bool
-badBox b = le (b .«x_max») (b .«x_min») || le (b .«y_max») (b .«y_min»)
 
 -- whether a coordinate is a NaN
 unfoldable pub anyNan : Box → Bool
 anyNan b = isNan (b .«x_min») || (isNan (b .«x_max») || (isNan (b .«y_min») || isNan (b .«y_max»)))
-
-unfoldable pub areaOf : Box → Float
-areaOf b = mul binary64 (sub binary64 (b .«x_max») (b .«x_min»)) (sub binary64 (b .«y_max») (b .«y_min»))
-
--- width times height, and 0 where a side is the wrong way round
-unfoldable pub rectangleOf : Float → Float → Float → Float → Float
-rectangleOf x0 y0 x1 y1 = cond (lt x1 x0 || lt y1 y0) zero64 (mul binary64 (sub binary64 x1 x0) (sub binary64 y1 y0))
 
 unfoldable pub intersectionOf : Box → Box → Float
 intersectionOf a b =

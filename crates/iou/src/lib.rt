@@ -1,64 +1,20 @@
-// Boxes, and how much of their area two of them share: as a distance, and as iou_matrix has it.
+// How much of their area two boxes share: as a distance, and as iou_matrix has it.
 // Ported from norfair-rs, internal/motmetrics/iou.rs, which follows py-motmetrics (NOTICE).
 ghost use mathlib.Core.Path.{_≡_};
-ghost use mathlib.Core.Bool.{false, cond};
-ghost use lib.Ieee.{lt};
-ghost use Rattle.floats.specs.Float.{maxOf, zero64};
-ghost use Rattle.iou.specs.Boxes.{badBox, anyNan, areaOf, rectangleOf, intersectionOf, distanceOf, Answered, sharedOf, iouShareOf};
-
-// A box: its corner with the smaller coordinates, and the opposite one.
-#[repr(C)]
-pub struct Box {
-    pub x_min: f64,
-    pub y_min: f64,
-    pub x_max: f64,
-    pub y_max: f64,
-}
+ghost use mathlib.Core.Bool.{false};
+ghost use Rattle.iou.specs.Boxes.{anyNan, areaOf, intersectionOf, distanceOf, Answered, sharedOf, iouShareOf};
+use boxes::Box;
+use boxes::area;
+use boxes::is_bad;
+use sides::clamp;
+use sides::lower;
+use sides::rectangle;
+use sides::upper;
 
 // What iou_distance answers: refusal 4, or a distance.
 pub enum Distance {
     Refused,
     Value(f64),
-}
-
-// Whether refusal 4 applies. Both tests are false where a NaN stands.
-pub fn is_bad(b: Box) -> bool
-    ensures { λ r. ⌜ r ≡ badBox b ⌝ }
-{
-    b.x_max <= b.x_min || b.y_max <= b.y_min
-}
-
-pub fn area(b: Box) -> f64
-    ensures { λ r. ⌜ r ≡ areaOf b ⌝ }
-{
-    (b.x_max - b.x_min) * (b.y_max - b.y_min)
-}
-
-// One comparison each, where max and min would take two: they differ from those only where x is a NaN, and then the
-// area of x's box is a NaN too and decides the answer.
-fn upper(x: f64, y: f64) -> f64
-    ensures { λ r. ⌜ r ≡ cond (lt x y) y x ⌝ }
-{
-    if x < y { y } else { x }
-}
-
-fn lower(x: f64, y: f64) -> f64
-    ensures { λ r. ⌜ r ≡ cond (lt y x) y x ⌝ }
-{
-    if y < x { y } else { x }
-}
-
-// Width times height, and 0 where a side is the wrong way round.
-fn rectangle(x_min: f64, y_min: f64, x_max: f64, y_max: f64) -> f64
-    ensures { λ r. ⌜ r ≡ rectangleOf «x_min» «y_min» «x_max» «y_max» ⌝ }
-{
-    if x_max < x_min {
-        return 0.0;
-    }
-    if y_max < y_min {
-        return 0.0;
-    }
-    (x_max - x_min) * (y_max - y_min)
 }
 
 fn intersection(box1: Box, box2: Box) -> f64
@@ -95,13 +51,6 @@ pub fn iou_distance(box1: Box, box2: Box) -> Distance
         return Distance::Refused;
     }
     Distance::Value(box_distance(box1, area(box1), box2, area(box2)))
-}
-
-// A side clamped at 0: max(side, 0.0) by one comparison.
-fn clamp(side: f64) -> f64
-    ensures { λ r. ⌜ r ≡ maxOf side zero64 ⌝ }
-{
-    if 0.0 <= side { side } else { 0.0 }
 }
 
 fn shared(box1: Box, box2: Box) -> f64

@@ -1,4 +1,3 @@
 pub mod Rooms
-pub mod Zeros
 pub mod Final
 pub mod Kept

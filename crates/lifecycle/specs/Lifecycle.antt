@@ -1,16 +1,17 @@
--- Document 01, "Lifecycles and events": a definition for each sentence on a lifecycle, and its refusals 1 and 7.
-use mathlib.Core.Bool.{Bool, true, false, not, _&&_, cond}
+-- Document 01, "Lifecycles and events": a definition for each sentence on a lifecycle, and its refusals 1 and 7. What a
+-- fragmentation, a coverage and a class is says `lifecycle_parts`, passed on.
+use mathlib.Core.Bool.{Bool, true, false, _&&_, cond}
 use Prim.Native.Nat.{ℕ}
-use lib.IntN.{ℤ, pos, negsuc, _+ℤ_}
-use lib.Signed.{ltZ, nonNeg}
-use lib.Ieee.{Float, binary64, fin, div, ofInt, lt, le}
+use lib.IntN.{ℤ, pos, _+ℤ_}
+use lib.Signed.{nonNeg}
+use lib.Ieee.{Float}
 use Rattle.floats.specs.Float.{zero64}
-use Rattle.counts.specs.Counts.{sameId, fits, roomFor, oneIf}
+use Rattle.counts.specs.Counts.{fits, roomFor, oneIf}
+pub use Rattle.lifecycle_parts.specs.Parts.{mostly, hardly, Totals, classNo, classTotals}
+unfoldable pub use Rattle.lifecycle_parts.specs.Parts.{fragments, shareOf, classOf}
 use Rattle.lifecycle.specs.declared.TrackLifecycle.{TrackLifecycle}
 use Rattle.lifecycle.specs.declared.Updated.{Updated}
 use Rattle.lifecycle.specs.declared.Coverage.{Coverage}
-use Rattle.lifecycle.specs.declared.Class.{Class}
-use Rattle.lifecycle.specs.declared.Class.the-variants.{MostlyTracked, PartiallyTracked, MostlyLost}
 
 abbrev pub fresh : ℤ → ℤ → TrackLifecycle
 fresh id frame =
@@ -23,10 +24,6 @@ fresh id frame =
       fragmentations = pos 0;
       «was_matched» = false;
     }
-
--- "if detected is now over 1 and the object wasn't matched before, one fragmentation"
-unfoldable pub fragments : ℤ → Bool → Bool
-fragments detected before = ltZ (pos 1) detected && not before
 
 -- "last frame set; tracked and detected up by 1; .. one fragmentation; mark matched"
 unfoldable pub matchedAfter : TrackLifecycle → ℤ → TrackLifecycle
@@ -87,37 +84,9 @@ updateMatchedOf t frame = updatedAt (soundCounts t) (roomToMatch t) (matchedAfte
 unfoldable pub updateMissedOf : TrackLifecycle → ℤ → Updated
 updateMissedOf t frame = updatedAt (soundCounts t) (roomToMiss t) (missedAfter t frame) t
 
--- ---- "Coverage is tracked / detected, 0.0 at detected 0"
-unfoldable pub shareOf : ℤ → ℤ → Float
-shareOf tracked detected = cond (sameId detected (pos 0)) zero64 (div binary64 (ofInt binary64 tracked) (ofInt binary64 detected))
-
+-- ---- coverage
 abbrev pub sharedOf : TrackLifecycle → Float
 sharedOf t = shareOf (t .«tracked_frames») (t .«detected_frames»)
 
 unfoldable pub coverageOf : TrackLifecycle → Coverage
 coverageOf t = cond (soundCounts t) (record { number = 0; value = sharedOf t }) (record { number = 1; value = zero64 })
-
--- the literals 0.8 and 0.2
-abbrev pub mostly : Float
-mostly = fin false 3602879701896397 (negsuc 51)
-
-abbrev pub hardly : Float
-hardly = fin false 3602879701896397 (negsuc 53)
-
--- "At least 0.8 is mostly tracked, below 0.2 mostly lost, else partly"
-unfoldable pub classOf : Float → Class
-classOf coverage = cond (le mostly coverage) MostlyTracked (cond (lt coverage hardly) MostlyLost PartiallyTracked)
-
--- ---- what stands for each class: no number but 0, and what it adds to the three totals
-pub record Totals : Type 0 where
-  pub tracked : ℕ
-  pub partially : ℕ
-  pub lost : ℕ
-
-abbrev pub classNo : Class → ℕ
-classNo c = 0
-
-abbrev pub classTotals : Class → Totals
-classTotals MostlyTracked = record { tracked = 1; partially = 0; lost = 0 }
-classTotals PartiallyTracked = record { tracked = 0; partially = 1; lost = 0 }
-classTotals MostlyLost = record { tracked = 0; partially = 0; lost = 1 }

@@ -2,13 +2,10 @@
 // Ported from norfair-rs, internal/motmetrics/accumulator.rs, which follows py-motmetrics (NOTICE).
 ghost use mathlib.Core.Path.{_≡_};
 ghost use mathlib.Core.Bool.{true};
-ghost use Rattle.lifecycle.specs.Lifecycle.{fresh, fragments, soundCounts, roomToMatch, roomToMiss, matchedAfter, missedAfter};
-ghost use Rattle.lifecycle.specs.Lifecycle.{updateMatchedOf, updateMissedOf, shareOf, sharedOf, coverageOf, classOf};
-
-// From this coverage on an object is mostly tracked, and below the other mostly lost.
-const MOSTLY_TRACKED: f64 = 0.8;
-
-const MOSTLY_LOST: f64 = 0.2;
+ghost use Rattle.lifecycle.specs.Lifecycle.{fresh, soundCounts, roomToMatch, roomToMiss, matchedAfter, missedAfter};
+ghost use Rattle.lifecycle.specs.Lifecycle.{updateMatchedOf, updateMissedOf, sharedOf, coverageOf};
+use lifecycle_parts::fragments;
+use lifecycle_parts::share_of;
 
 pub struct TrackLifecycle {
     pub gt_id: i32,
@@ -29,12 +26,6 @@ pub struct Updated {
 pub struct Coverage {
     pub number: u32,
     pub value: f64,
-}
-
-pub enum Class {
-    MostlyTracked,
-    PartiallyTracked,
-    MostlyLost,
 }
 
 impl TrackLifecycle {
@@ -181,35 +172,4 @@ impl TrackLifecycle {
     {
         share_of(self.tracked_frames, self.detected_frames)
     }
-}
-
-// What counts as a fragmentation: a match of an object that was there before and wasn't matched then.
-fn fragments(detected: i32, was_matched: bool) -> bool
-    ensures { λ r. ⌜ r ≡ fragments detected «was_matched» ⌝ }
-{
-    if detected > 1 { !was_matched } else { false }
-}
-
-fn share_of(tracked: i32, detected: i32) -> f64
-    ensures { λ r. ⌜ r ≡ shareOf tracked detected ⌝ }
-{
-    if detected == 0 {
-        return 0.0;
-    }
-    let t = tracked as f64;
-    let d = detected as f64;
-    t / d
-}
-
-// Which of the three classes a coverage falls in.
-pub fn class_of(coverage: f64) -> Class
-    ensures { λ r. ⌜ r ≡ classOf coverage ⌝ }
-{
-    if coverage >= MOSTLY_TRACKED {
-        return Class::MostlyTracked;
-    }
-    if coverage < MOSTLY_LOST {
-        return Class::MostlyLost;
-    }
-    Class::PartiallyTracked
 }

@@ -11,7 +11,7 @@ use borrow.Rule.Slice.PartMut.{midOf, postOf, putMid}
 use lib.Seq.{getD-at, getD-append-add, drop-cons, set-at, take-at, drop-at, drop-drop, drop-append-le}
 use lib.Ieee.{Float, nan}
 pub use Rattle.matrix_numbers.proofs.Laws.{or-first, or-zero, or-false, cond-zero}
-use Rattle.iou.specs.declared.Box.{Box}
+use Rattle.boxes.specs.declared.Box.{Box}
 use Rattle.matrix.specs.declared.Measure.{Measure}
 use Rattle.matrix.specs.Matrix.{boxAt, measuredOf, rowOf, matrixOf, overwrite, matrixAfter}
 

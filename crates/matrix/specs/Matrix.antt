@@ -5,7 +5,7 @@ use Prim.Native.Nat.{ℕ, zero, suc, _/_, _<_}
 use lib.ListN.{length, getD, drop}
 use lib.Ieee.{Float, nan}
 use Rattle.iou.specs.Boxes.{areaOf, distanceOf, iouShareOf}
-use Rattle.iou.specs.declared.Box.{Box}
+use Rattle.boxes.specs.declared.Box.{Box}
 pub use Rattle.matrix_numbers.specs.Numbers.{boxAt, orNo}
 unfoldable pub use Rattle.matrix_numbers.specs.Numbers.{shapeNo, anyBad, anyReadBad, roomNo, distanceMatrixNo, iouMatrixNo}
 use Rattle.matrix.specs.declared.Measure.{Measure}

@@ -6,7 +6,7 @@ use lib.Dec.{ltb, eqb}
 use lib.ListN.{length, getD}
 use lib.Ieee.{Float, nan}
 use Rattle.iou.specs.Boxes.{badBox}
-use Rattle.iou.specs.declared.Box.{Box}
+use Rattle.boxes.specs.declared.Box.{Box}
 
 -- box i of a run of floats, four to a box
 abbrev pub boxAt : List Float → ℕ → Box

@@ -4,8 +4,8 @@ ghost use mathlib.Core.Path.{_≡_};
 ghost use Prim.Native.Nat.{_/_, _<_, _≤_};
 ghost use lib.ListN.{length};
 ghost use Rattle.matrix_numbers.specs.Numbers.{boxAt, anyBad, anyReadBad, shapeNo, roomNo, distanceMatrixNo, iouMatrixNo};
-use iou::Box;
-use iou::is_bad;
+use boxes::Box;
+use boxes::is_bad;
 
 // The box whose four floats start at 4 * i.
 pub fn box_at(run: &[f64], i: usize) -> Box

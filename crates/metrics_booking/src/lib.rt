@@ -53,7 +53,7 @@ pub fn book(
         };
     }
     let pairs = p.pairs;
-    let booked = partners::book_matches(truths.truths, &pairs[..used], gt_ids, hyp_ids);
+    let booked = matches::book_matches(truths.truths, &pairs[..used], gt_ids, hyp_ids);
     let switched = booked.switched;
     let next = booking::book_frame(log, frame, gt_ids, hyp_ids, distances, p, &switched);
     let seen_truths = booked.truths;

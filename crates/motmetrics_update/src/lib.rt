@@ -52,7 +52,7 @@ pub fn update_sound(
     let used = p.used;
     let pairs = p.pairs;
     let table = s.last_match;
-    let booked = partners::book_matches(table, &pairs[..used], object_ids, hypothesis_ids);
+    let booked = matches::book_matches(table, &pairs[..used], object_ids, hypothesis_ids);
     if booked.full {
         return Updated {
             number: 5,

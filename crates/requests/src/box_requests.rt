@@ -2,8 +2,8 @@
 ghost use Prim.Native.Nat.{_≤_};
 ghost use lib.ListN.{length};
 ghost use Rattle.lines.specs.Cursors.{Front};
+use boxes::Box;
 use float_bits::computed;
-use iou::Box;
 use iou::Distance;
 use lines::input;
 use lines::output;

@@ -1,8 +1,8 @@
 // A row for each truth id: its lifecycle.
 ghost use Prim.Native.Nat.{_≤_};
-use lifecycle::Class;
 use lifecycle::TrackLifecycle;
-use lifecycle::class_of;
+use lifecycle_parts::Class;
+use lifecycle_parts::class_of;
 use lines::output;
 use lines::output::Writer;
 use rows::ExtendedMOTAccumulator;
