@@ -1,18 +1,18 @@
-/* Three truth boxes paired with three predictions by least distance. Its output stands in pairs.out. */
+/* Four truth boxes paired with three predictions by least distance. Its output stands in pairs.out. */
 #include <stdio.h>
 
 #include "mot.h"
 
 int main(void)
 {
-    const double truth[] = {0, 0, 2, 2, 10, 10, 14, 14, 20, 0, 22, 2};
+    const double truth[] = {0, 0, 2, 2, 10, 10, 14, 14, 20, 0, 22, 2, 30, 30, 32, 32};
     const double predicted[] = {10, 10, 14, 13, 1, 0, 3, 2, 40, 40, 42, 42};
-    double distances[9];
+    double distances[12];
     size_t answer[MOT_ANSWER_LEN];
 
-    uint32_t number = mot_compute_iou_distance_matrix(truth, 12, predicted, 12, distances, 9);
+    uint32_t number = mot_compute_iou_distance_matrix(truth, 16, predicted, 12, distances, 12);
     if (number == 0)
-        number = mot_linear_sum_assignment(distances, 9, 3, 3, 0.9, answer, MOT_ANSWER_LEN);
+        number = mot_linear_sum_assignment(distances, 12, 4, 3, 0.9, answer, MOT_ANSWER_LEN);
     if (number != 0) {
         printf("refused with %u\n", (unsigned)number);
         return 1;

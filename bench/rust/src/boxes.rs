@@ -1,8 +1,8 @@
-//! Module 1: both matrices.
+//! Module 1: the distance of two boxes, and both matrices.
 
 use crate::{port, rounds::row};
 use nalgebra::DMatrix;
-use norfair::internal::motmetrics::iou::{compute_iou_distance_matrix, iou_matrix};
+use norfair::internal::motmetrics::iou::{compute_iou_distance_matrix, iou_distance, iou_matrix};
 use std::hint::black_box;
 
 /// Players on a pitch: boxes of some 40 by 80, most pairs apart.
@@ -27,6 +27,14 @@ pub fn bench() {
         let (truth_rows, predicted_rows) = (rows(&truth), rows(&predicted));
         let dense = |run: &[f64]| DMatrix::from_row_slice(size, 4, run);
         let (truth_dense, predicted_dense) = (dense(&truth), dense(&predicted));
+        let each = || truth_rows.iter().map(|other| iou_distance(&truth_rows[0], black_box(other))).sum::<f64>();
+        assert_eq!(each(), port::iou_distances(&truth));
+        row(
+            "iou_distance",
+            &format!("one box to {size}"),
+            &mut || { black_box(each()); },
+            &mut || { black_box(port::iou_distances(black_box(&truth))); },
+        );
         let mut out = vec![0.0; size * size];
         let label = format!("{size} by {size}");
         row(

@@ -6,8 +6,8 @@ use norfair::internal::scipy::optimize::linear_sum_assignment;
 use std::hint::black_box;
 
 /// Updates a call: then the new state's cost is small beside them.
-const TIMES: u64 = 100;
-const THRESHOLD: f64 = 0.5;
+pub const TIMES: u64 = 100;
+pub const THRESHOLD: f64 = 0.5;
 
 pub struct Frame {
     pub ids: Vec<i32>,
@@ -45,7 +45,7 @@ pub fn unrelated(side: usize) -> Frame {
     Frame { ids: (1..=side as i32).collect(), truth: boxes(), predicted: boxes() }
 }
 
-fn solved(costs: &[Vec<f64>], most: f64) -> (Vec<[usize; 2]>, Vec<usize>, Vec<usize>) {
+pub fn solved(costs: &[Vec<f64>], most: f64) -> (Vec<[usize; 2]>, Vec<usize>, Vec<usize>) {
     let found = linear_sum_assignment(costs, most);
     let pairs = found.assignments.iter().map(|a| [a.row_idx, a.col_idx]).collect();
     (pairs, found.unmatched_rows, found.unmatched_cols)
@@ -64,6 +64,7 @@ fn case(kind: &str, frame: &Frame) {
     let side = frame.ids.len();
     for (name, update) in [
         ("extended_in_place::update_in_place", Update::InPlace),
+        ("mot_extended_update", Update::Flat),
         ("extended::update_sound", Update::Sound),
         ("extended::update", Update::Public),
     ] {

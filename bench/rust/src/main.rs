@@ -1,5 +1,5 @@
 //! The port beside the Rust, in one process: the same inputs, both built for release, five rounds.
-//! Words name the parts to time (boxes, search, extended, mot, metrics); without one all are.
+//! Words name the parts to time (boxes, search, extended, mot, metrics, scores, soundness); without one all are.
 
 mod boxes;
 mod extended;
@@ -8,7 +8,9 @@ mod mot;
 #[allow(dead_code)]
 mod port;
 mod rounds;
+mod scores;
 mod search;
+mod soundness;
 
 const PARTS: &[(&str, fn())] = &[
     ("boxes", boxes::bench),
@@ -16,6 +18,8 @@ const PARTS: &[(&str, fn())] = &[
     ("extended", extended::bench),
     ("mot", mot::bench),
     ("metrics", metrics::bench),
+    ("scores", scores::bench),
+    ("soundness", soundness::bench),
 ];
 
 fn main() {

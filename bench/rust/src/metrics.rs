@@ -20,6 +20,7 @@ fn case(kind: &str, frame: &Frame, threshold: f64) {
     let size = format!("{side} a side, {kind}, threshold {threshold:.1}, {times} frames");
     for (name, update) in [
         ("metrics_in_place::update_in_place", port::Update::InPlace),
+        ("mot_metrics_update", port::Update::Flat),
         ("metrics_update::update_sound", port::Update::Sound),
         ("metrics_update::update", port::Update::Public),
     ] {

@@ -12,7 +12,7 @@ pub fn frames(side: usize) -> u64 {
 }
 
 /// The port's log on lent columns is the Rust's, event by event.
-fn assert_same_log(events: &[Event], log: &port::Columns) {
+fn assert_same_log(events: &[Event], log: &port::Log) {
     assert_eq!(events.len(), log.used);
     for (k, event) in events.iter().enumerate() {
         let kind = match event.event_type {
@@ -46,6 +46,7 @@ fn case(kind: &str, ids: &[i32], distances: &[f64]) {
     let size = format!("{side} a side, {kind}, {times} frames");
     for (name, update) in [
         ("motmetrics_in_place::update_in_place", port::Update::InPlace),
+        ("mot_motmetrics_update", port::Update::Flat),
         ("motmetrics_update::update_sound", port::Update::Sound),
         ("motmetrics_update::update", port::Update::Public),
     ] {

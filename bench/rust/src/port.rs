@@ -44,7 +44,7 @@ extern "C" {
     ) -> usize;
     fn bench_mot_update_in_place(
         numbers: *mut i32, numbers_len: usize, log_distances: *mut f64, log_distances_len: usize, table: *mut i32, table_len: usize,
-        ids: *const i32, ids_len: usize, hyp_ids: *const i32, hyp_ids_len: usize, distances: *const f64,
+        truths: usize, ids: *const i32, ids_len: usize, hyp_ids: *const i32, hyp_ids_len: usize, distances: *const f64,
         distances_len: usize, times: u64,
     ) -> usize;
     fn bench_metrics_update(
@@ -57,14 +57,28 @@ extern "C" {
     ) -> usize;
     fn bench_metrics_update_in_place(
         numbers: *mut i32, numbers_len: usize, log_distances: *mut f64, log_distances_len: usize, table: *mut i32, table_len: usize,
-        hypotheses: *mut i32, hypotheses_len: usize,
+        hypotheses: *mut i32, hypotheses_len: usize, truths: usize, known: usize,
         ids: *const i32, ids_len: usize, hyp_ids: *const i32, hyp_ids_len: usize, truth: *const f64, truth_len: usize,
         predicted: *const f64, predicted_len: usize, threshold: f64, times: u64,
     ) -> usize;
     fn bench_pair_by_distance(distances: *const f64, distances_len: usize, rows: usize, columns: usize) -> usize;
     fn bench_update_in_place(
+        run: *mut i32, run_len: usize, used: usize, gt_ids: *const i32, gt_ids_len: usize, gt: *const f64, gt_len: usize, pred_ids: *const i32, pred_ids_len: usize,
+        pred: *const f64, pred_len: usize, threshold: f64, times: u64,
+    ) -> f64;
+    fn bench_iou_distances(boxes: *const f64, boxes_len: usize) -> f64;
+    fn bench_lifecycles(frame: i32, times: u64) -> f64;
+    fn bench_extended_metrics(
         gt_ids: *const i32, gt_ids_len: usize, gt: *const f64, gt_len: usize, pred_ids: *const i32, pred_ids_len: usize,
         pred: *const f64, pred_len: usize, threshold: f64, times: u64,
+    ) -> f64;
+    fn bench_mot_metrics(
+        ids: *const i32, ids_len: usize, hyp_ids: *const i32, hyp_ids_len: usize, distances: *const f64,
+        distances_len: usize, frames: u64, times: u64,
+    ) -> f64;
+    fn bench_scores(
+        ids: *const i32, ids_len: usize, hyp_ids: *const i32, hyp_ids_len: usize, truth: *const f64, truth_len: usize,
+        predicted: *const f64, predicted_len: usize, threshold: f64, frames: u64, times: u64, whole: bool,
     ) -> f64;
 }
 
@@ -74,6 +88,7 @@ pub enum Update {
     Public,
     Sound,
     InPlace,
+    Flat,
 }
 
 /// Places of a solver's answer: 5 counts, then 64 each of the pairs' rows, their columns, the rows left, the columns left.
@@ -154,7 +169,8 @@ pub fn updates(ids: &[i32], truth: &[f64], predicted: &[f64], threshold: f64, ti
     let call = match update {
         Update::Public => bench_update,
         Update::Sound => bench_update_sound,
-        Update::InPlace => bench_update_in_place,
+        Update::InPlace => return extended_in_place(&mut [0; 2304], 0, ids, truth, predicted, threshold, times),
+        Update::Flat => return extended_flat(&mut [0; 2304], 0, ids, truth, predicted, threshold, times),
     };
     // SAFETY: as above
     unsafe {
@@ -165,40 +181,87 @@ pub fn updates(ids: &[i32], truth: &[f64], predicted: &[f64], threshold: f64, ti
     }
 }
 
+/// The same by the inner update on a lent table that has so many ids in use.
+pub fn extended_in_place(
+    run: &mut [i32], used: usize, ids: &[i32], truth: &[f64], predicted: &[f64], threshold: f64, times: u64,
+) -> f64 {
+    // SAFETY: as above
+    unsafe {
+        bench_update_in_place(
+            run.as_mut_ptr(), run.len(), used, ids.as_ptr(), ids.len(), truth.as_ptr(), truth.len(), ids.as_ptr(), ids.len(),
+            predicted.as_ptr(), predicted.len(), threshold, times,
+        )
+    }
+}
+
+/// The same by the public update over lent numbers.
+pub fn extended_flat(
+    run: &mut [i32], used: usize, ids: &[i32], truth: &[f64], predicted: &[f64], threshold: f64, times: u64,
+) -> f64 {
+    let (mut counters, mut distance) = ([used as i32, 0, 0, 0, 0, 0, 0], [0.0]);
+    for _ in 0..times {
+        extended_update(run, &mut counters, &mut distance, ids, truth, ids, predicted, threshold);
+    }
+    distance[0]
+}
+
 /// How many events module 3's accumulator has logged after so many updates by one frame.
 pub fn mot_updates(ids: &[i32], distances: &[f64], times: u64, update: Update) -> usize {
     let call = match update {
         Update::Public => bench_mot_update,
         Update::Sound => bench_mot_update_sound,
-        Update::InPlace => return mot_updates_in_place(ids, distances, times),
+        Update::InPlace => return mot_log_in_place(ids, distances, times).used,
+        Update::Flat => return mot_flat(&mut Log::new(), ids, distances, times),
     };
     // SAFETY: as above
     unsafe { call(ids.as_ptr(), ids.len(), ids.as_ptr(), ids.len(), distances.as_ptr(), distances.len(), times) }
 }
 
-/// The same on lent columns, new ones each time.
-fn mot_updates_in_place(ids: &[i32], distances: &[f64], times: u64) -> usize {
-    mot_log_in_place(ids, distances, times).used
-}
-
-/// A log as columns: frames, kinds, truths and hypotheses, 1,024 of each, and distances.
-pub struct Columns {
+/// A state of module 3 or 4 as columns: a log's frames, kinds, truths and hypotheses, 1,024 of each, and distances; the tables
+/// of ids. Of the ids so many are in use; of the events used, none before an update.
+pub struct Log {
     pub numbers: [i32; 4096],
     pub distances: [f64; 1024],
+    pub table: [i32; 768],
+    pub hypotheses: [i32; 1024],
+    pub truths: usize,
+    pub known: usize,
     pub used: usize,
 }
 
-pub fn mot_log_in_place(ids: &[i32], distances: &[f64], times: u64) -> Columns {
-    let mut log = Columns { numbers: [0; 4096], distances: [0.0; 1024], used: 0 };
-    let mut table = [0i32; 768];
-    // SAFETY: as above
-    log.used = unsafe {
-        bench_mot_update_in_place(
-            log.numbers.as_mut_ptr(), log.numbers.len(), log.distances.as_mut_ptr(), log.distances.len(), table.as_mut_ptr(), table.len(),
-            ids.as_ptr(), ids.len(), ids.as_ptr(), ids.len(), distances.as_ptr(), distances.len(), times,
-        )
-    };
+impl Log {
+    pub fn new() -> Self {
+        Log { numbers: [0; 4096], distances: [0.0; 1024], table: [0; 768], hypotheses: [0; 1024], truths: 0, known: 0, used: 0 }
+    }
+}
+
+pub fn mot_log_in_place(ids: &[i32], distances: &[f64], times: u64) -> Log {
+    let mut log = Log::new();
+    log.used = mot_in_place(&mut log, ids, distances, times);
     log
+}
+
+/// How many events are logged, by the inner update on lent columns.
+pub fn mot_in_place(log: &mut Log, ids: &[i32], distances: &[f64], times: u64) -> usize {
+    // SAFETY: as above
+    unsafe {
+        bench_mot_update_in_place(
+            log.numbers.as_mut_ptr(), log.numbers.len(), log.distances.as_mut_ptr(), log.distances.len(),
+            log.table.as_mut_ptr(), log.table.len(), log.truths, ids.as_ptr(), ids.len(), ids.as_ptr(), ids.len(),
+            distances.as_ptr(), distances.len(), times,
+        )
+    }
+}
+
+/// The same by the public update over lent numbers.
+pub fn mot_flat(log: &mut Log, ids: &[i32], distances: &[f64], times: u64) -> usize {
+    let mut used = [0, log.truths];
+    for _ in 0..times {
+        motmetrics_update(
+            &mut log.numbers, &mut log.distances, &mut log.table, &mut used, 1, ids, ids, distances,
+        );
+    }
+    used[0]
 }
 
 /// How many events module 4's accumulator has logged after so many updates by one frame.
@@ -208,7 +271,8 @@ pub fn metrics_updates(
     let call = match update {
         Update::Public => bench_metrics_update,
         Update::Sound => bench_metrics_update_sound,
-        Update::InPlace => return metrics_updates_in_place(ids, truth, predicted, threshold, times),
+        Update::InPlace => return metrics_in_place(&mut Log::new(), ids, truth, predicted, threshold, times),
+        Update::Flat => return metrics_flat(&mut Log::new(), ids, truth, predicted, threshold, times),
     };
     // SAFETY: as above
     unsafe {
@@ -219,15 +283,77 @@ pub fn metrics_updates(
     }
 }
 
-/// The same on lent runs, new ones each time.
-fn metrics_updates_in_place(ids: &[i32], truth: &[f64], predicted: &[f64], threshold: f64, times: u64) -> usize {
-    let (mut numbers, mut distances, mut table, mut hypotheses) = ([0i32; 4096], [0f64; 1024], [0i32; 768], [0i32; 1024]);
+/// The same by the inner update on lent columns.
+pub fn metrics_in_place(
+    log: &mut Log, ids: &[i32], truth: &[f64], predicted: &[f64], threshold: f64, times: u64,
+) -> usize {
     // SAFETY: as above
     unsafe {
         bench_metrics_update_in_place(
-            numbers.as_mut_ptr(), numbers.len(), distances.as_mut_ptr(), distances.len(), table.as_mut_ptr(), table.len(),
-            hypotheses.as_mut_ptr(), hypotheses.len(), ids.as_ptr(), ids.len(), ids.as_ptr(), ids.len(), truth.as_ptr(),
-            truth.len(), predicted.as_ptr(), predicted.len(), threshold, times,
+            log.numbers.as_mut_ptr(), log.numbers.len(), log.distances.as_mut_ptr(), log.distances.len(),
+            log.table.as_mut_ptr(), log.table.len(), log.hypotheses.as_mut_ptr(), log.hypotheses.len(), log.truths, log.known,
+            ids.as_ptr(), ids.len(), ids.as_ptr(), ids.len(), truth.as_ptr(), truth.len(), predicted.as_ptr(),
+            predicted.len(), threshold, times,
+        )
+    }
+}
+
+/// The same by the public update over lent numbers.
+pub fn metrics_flat(
+    log: &mut Log, ids: &[i32], truth: &[f64], predicted: &[f64], threshold: f64, times: u64,
+) -> usize {
+    let mut used = [0, log.truths, log.known];
+    for _ in 0..times {
+        metrics_update(
+            &mut log.numbers, &mut log.distances, &mut log.table, &mut log.hypotheses, &mut used, 1, ids, ids, truth,
+            predicted, threshold,
+        );
+    }
+    used[0]
+}
+
+/// The distances of the first box to every box, summed.
+pub fn iou_distances(boxes: &[f64]) -> f64 {
+    // SAFETY: as above
+    unsafe { bench_iou_distances(boxes.as_ptr(), boxes.len()) }
+}
+
+/// A match, a miss and the coverage so many times; the sum of the coverages.
+pub fn lifecycles(frame: i32, times: u64) -> f64 {
+    // SAFETY: as above
+    unsafe { bench_lifecycles(frame, times) }
+}
+
+/// The extended metrics of a state after one frame, so many times; for how many there was an object mostly tracked.
+pub fn extended_metrics(ids: &[i32], truth: &[f64], predicted: &[f64], threshold: f64, times: u64) -> f64 {
+    // SAFETY: as above
+    unsafe {
+        bench_extended_metrics(
+            ids.as_ptr(), ids.len(), truth.as_ptr(), truth.len(), ids.as_ptr(), ids.len(), predicted.as_ptr(),
+            predicted.len(), threshold, times,
+        )
+    }
+}
+
+/// Module 3's metrics of a state after so many frames, so many times; the sum of the MOTAs.
+pub fn mot_metrics(ids: &[i32], distances: &[f64], frames: u64, times: u64) -> f64 {
+    // SAFETY: as above
+    unsafe {
+        bench_mot_metrics(
+            ids.as_ptr(), ids.len(), ids.as_ptr(), ids.len(), distances.as_ptr(), distances.len(), frames, times,
+        )
+    }
+}
+
+/// Module 5's metrics, or module 4's two scores, of a state after so many frames, so many times; the sum of them.
+pub fn scores(
+    ids: &[i32], truth: &[f64], predicted: &[f64], threshold: f64, frames: u64, times: u64, whole: bool,
+) -> f64 {
+    // SAFETY: as above
+    unsafe {
+        bench_scores(
+            ids.as_ptr(), ids.len(), ids.as_ptr(), ids.len(), truth.as_ptr(), truth.len(), predicted.as_ptr(),
+            predicted.len(), threshold, frames, times, whole,
         )
     }
 }

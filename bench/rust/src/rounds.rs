@@ -6,7 +6,11 @@ const ROUNDS: usize = 5;
 const ROUND_SECONDS: f64 = 0.1;
 
 pub fn heading() {
-    println!("| call | size | Rust, µs | port, µs | port / Rust | spread |");
+    heading_of("Rust, µs", "port, µs", "port / Rust");
+}
+
+pub fn heading_of(first: &str, second: &str, ratio: &str) {
+    println!("| call | size | {first} | {second} | {ratio} | spread |");
     println!("|---|---|---|---|---|---|");
 }
 

@@ -59,7 +59,7 @@ fn case(kind: &str, size: usize, run: &[f64]) {
 }
 
 pub fn bench() {
-    for size in [8, 20, 64] {
+    for size in [5, 8, 20, 64] {
         case("uniform", size, &uniform(size));
     }
     case("whole numbers", 64, &whole(64));

@@ -1,4 +1,5 @@
 // Updates for bench/run, made one after the other on this side of the border, where the state stays.
+mod calls;
 mod metric_updates;
 mod mot;
 
@@ -48,9 +49,11 @@ pub extern "C" fn bench_update_sound(
     s.total_distance
 }
 
-// The same by the inner update in a lent table.
+// The same by the inner update in a table that is lent, with so many slots in use.
 #[no_mangle]
 pub extern "C" fn bench_update_in_place(
+    run: &mut [i32],
+    used: usize,
     gt_ids: &[i32],
     gt_bboxes: &[f64],
     pred_ids: &[i32],
@@ -58,13 +61,19 @@ pub extern "C" fn bench_update_in_place(
     threshold: f64,
     times: u64,
 ) -> f64 {
-    let mut run = [0i32; 2304];
+    if run.len() != 2304 {
+        return 0.0;
+    }
+    if used > 256 {
+        return 0.0;
+    }
     let mut square = [0.0f64; 4096];
     let mut totals = Totals::new();
+    totals.used = used;
     let mut left = times;
     while left > 0 {
         let c = extended_in_place::update_in_place(
-            &mut run,
+            run,
             &mut square,
             totals,
             gt_ids,

@@ -59,13 +59,15 @@ pub extern "C" fn bench_metrics_update_sound(
     s.log.used
 }
 
-// The inner update on runs that are lent by the caller, as in `mot`.
+// The inner update on runs that are lent by the caller, with so many ids in use, as in `mot`.
 #[no_mangle]
 pub extern "C" fn bench_metrics_update_in_place(
     numbers: &mut [i32],
     log_distances: &mut [f64],
     table: &mut [i32],
     hypotheses: &mut [i32],
+    truths: usize,
+    known: usize,
     gt_ids: &[i32],
     hyp_ids: &[i32],
     gt_boxes: &[f64],
@@ -85,10 +87,16 @@ pub extern "C" fn bench_metrics_update_in_place(
     if hypotheses.len() != 1024 {
         return 0;
     }
+    if truths > 256 {
+        return 0;
+    }
+    if known > 1024 {
+        return 0;
+    }
     let mut used = Used {
         events: 0,
-        truths: 0,
-        hypotheses: 0,
+        truths: truths,
+        hypotheses: known,
     };
     let mut left = times;
     while left > 0 {

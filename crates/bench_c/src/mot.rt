@@ -44,13 +44,14 @@ pub extern "C" fn bench_mot_update_sound(
     s.log.used
 }
 
-// The inner update on columns that are lent by the caller: in a local of this function nobody would read the log, and the compiler
-// could leave out its writing.
+// The inner update on columns that are lent by the caller, with so many truths in use: in a local of this function nobody would
+// read the log, and the compiler could leave out its writing.
 #[no_mangle]
 pub extern "C" fn bench_mot_update_in_place(
     numbers: &mut [i32],
     log_distances: &mut [f64],
     table: &mut [i32],
+    truths: usize,
     object_ids: &[i32],
     hypothesis_ids: &[i32],
     distances: &[f64],
@@ -65,9 +66,12 @@ pub extern "C" fn bench_mot_update_in_place(
     if table.len() != 768 {
         return 0;
     }
+    if truths > 256 {
+        return 0;
+    }
     let mut used = Used {
         events: 0,
-        truths: 0,
+        truths: truths,
     };
     let mut left = times;
     while left > 0 {

@@ -11,7 +11,7 @@ ghost use lib.Signed.{nonNeg};
 ghost use lib.ListN.{length, take, getD};
 ghost use Rattle.slots.specs.Slots.{countsSound, soundOf};
 ghost use Rattle.columns.specs.Columns.{slotsOf};
-ghost use Rattle.frame.specs.Frame.{totalsSound, soundState, stateWith};
+ghost use Rattle.frame.specs.Frame.{soundState};
 ghost use Rattle.inplace.specs.InPlace.{stateOf};
 ghost use Rattle.extended_flat.specs.Flat.{totalsIn, countersOf, wholeOf, Checked, Answered};
 
@@ -46,25 +46,12 @@ fn table_sound(run: &[i32], used: usize) -> bool
     ids::distinct(&run[..used])
 }
 
-// Whether none of the six counters is negative.
-fn totals_sound(t: Totals) -> bool
-    ensures { λ r. ⌜ r ≡ totalsSound (stateWith [] t) ⌝ }
-{
-    let a = counts::not_negative(t.frame_id);
-    let b = counts::not_negative(t.num_matches);
-    let c = counts::not_negative(t.num_misses);
-    let d = counts::not_negative(t.num_false_positives);
-    let e = counts::not_negative(t.num_switches);
-    let f = counts::not_negative(t.num_objects);
-    frame::both(frame::all_three(a, b, c), frame::all_three(d, e, f))
-}
-
 // Whether a state that is handed in is one that refusal 1 lets by.
 fn sound(run: &[i32], totals: Totals) -> bool
     requires { ⌜ length (now run) ≡ 2304 ⌝ }
     ensures { λ r. ⌜ r ≡ soundState (stateOf (now (run .entry)) totals) ⌝ }
 {
-    if !totals_sound(totals) {
+    if !frame::totals_sound(totals) {
         return false;
     }
     let used = totals.used;

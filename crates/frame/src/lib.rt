@@ -217,15 +217,15 @@ pub fn book_frame(
 }
 
 // Whether none of the six counters is negative.
-fn totals_sound(s: ExtendedMOTAccumulator) -> bool
-    ensures { λ r. ⌜ r ≡ totalsSound s ⌝ }
+pub fn totals_sound(t: Totals) -> bool
+    ensures { λ r. ⌜ r ≡ totalsSound (stateWith [] t) ⌝ }
 {
-    let a = counts::not_negative(s.frame_id);
-    let b = counts::not_negative(s.num_matches);
-    let c = counts::not_negative(s.num_misses);
-    let d = counts::not_negative(s.num_false_positives);
-    let e = counts::not_negative(s.num_switches);
-    let f = counts::not_negative(s.num_objects);
+    let a = counts::not_negative(t.frame_id);
+    let b = counts::not_negative(t.num_matches);
+    let c = counts::not_negative(t.num_misses);
+    let d = counts::not_negative(t.num_false_positives);
+    let e = counts::not_negative(t.num_switches);
+    let f = counts::not_negative(t.num_objects);
     both(all_three(a, b, c), all_three(d, e, f))
 }
 
@@ -233,7 +233,7 @@ fn totals_sound(s: ExtendedMOTAccumulator) -> bool
 pub fn sound(s: ExtendedMOTAccumulator) -> bool
     ensures { λ r. ⌜ r ≡ soundState s ⌝ }
 {
-    if !totals_sound(s) {
+    if !totals_sound(totals_of(s)) {
         return false;
     }
     let table = s.slots;

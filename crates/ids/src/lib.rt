@@ -28,7 +28,7 @@ pub fn seek(ids: &[i32], id: i32) -> Lookup
 }
 
 // Up to so many ids every two are compared: that is quicker than to clear the chains.
-const FEW: usize = 24;
+const FEW: usize = 12;
 
 // So many places the chains can hold, as many as a table of ids has at most; a longer run is compared two by two.
 const MOST: usize = 1024;

@@ -12,7 +12,7 @@ use lines::session::say_count;
 use log_requests::logs;
 use log_requests::tables;
 use metrics::MOTAccumulator;
-use metrics_update::Updated;
+use metrics_booking::Updated;
 
 // A state, and how many places of its log and of its tables were given.
 struct ReadState {

@@ -19,7 +19,7 @@ use Rattle.shape.specs.Shape.{shapeNo}
 use Rattle.greedy_pairs.specs.Pairs.{byShare}
 use Rattle.metrics.specs.declared.MOTAccumulator.{MOTAccumulator}
 use Rattle.metrics.specs.State.{soundState}
-use Rattle.metrics_update.specs.declared.Updated.{Updated as After}
+use Rattle.metrics_booking.specs.declared.Updated.{Updated as After}
 use Rattle.metrics_update.specs.Update.{refusedAt, storedOf, bookOf, frameAfter, updateOf}
 use Rattle.metrics_update.proofs.Steps as steps
 use Rattle.metrics_in_place.specs.declared.Used.{Used}

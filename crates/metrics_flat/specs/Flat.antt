@@ -11,7 +11,7 @@ use lib.Ieee.{Float}
 use Rattle.sizes.specs.Sizes.{logAndTable, lengthsNo}
 use Rattle.shape.specs.Shape.{shapeNo}
 use Rattle.metrics.specs.declared.MOTAccumulator.{MOTAccumulator}
-use Rattle.metrics_update.specs.declared.Updated.{Updated}
+use Rattle.metrics_booking.specs.declared.Updated.{Updated}
 use Rattle.metrics_update.specs.Update.{refusedAt, updateOf}
 use Rattle.metrics_in_place.specs.declared.Used.{Used}
 use Rattle.metrics_in_place.specs.declared.Closed.{Closed}

@@ -26,7 +26,7 @@ use Rattle.greedy_pairs.specs.Pairs.{byShare}
 use Rattle.booking.specs.Booking.{eventsOf, logAfter}
 use Rattle.truths_in_place.proofs.Room.{booked-few}
 use Rattle.metrics.specs.declared.MOTAccumulator.{MOTAccumulator}
-use Rattle.metrics_update.specs.declared.Updated.{Updated as After}
+use Rattle.metrics_booking.specs.declared.Updated.{Updated as After}
 use Rattle.metrics_update.specs.Update.{storedOf, matchedBy, bookedWith, bookOf, frameAfter}
 use Rattle.metrics_in_place.specs.declared.Used.{Used}
 use Rattle.metrics_in_place.specs.declared.Closed.{Closed}

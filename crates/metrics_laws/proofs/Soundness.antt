@@ -25,7 +25,7 @@ use Rattle.greedy_pairs.specs.Pairs.{byShare}
 use Rattle.booking.specs.Booking.{eventsOf, logAfter}
 use Rattle.metrics.specs.declared.MOTAccumulator.{MOTAccumulator}
 use Rattle.metrics.specs.State.{soundState}
-use Rattle.metrics_update.specs.declared.Updated.{Updated}
+use Rattle.metrics_booking.specs.declared.Updated.{Updated}
 use Rattle.metrics_update.specs.Update.{refusedAt, closedAt, bookNo, matchedBy, storedOf, bookOf, pairedAfter, frameAfter, updateOf}
 
 sound-parts : (s : MOTAccumulator) → soundState s ≡ true → (logSound (s .log) ≡ true) × (truthsSound (s .truths) ≡ true) × (hypothesesSound (s .hypotheses) ≡ true)

@@ -5,7 +5,7 @@ use borrow.Author.Tests.{eq-eqb, ne-eqb}
 use lib.IntN.{ℤ}
 use lib.Ieee.{Float}
 use Rattle.frame.specs.declared.Booked.{Booked}
-use Rattle.metrics_update.specs.declared.Updated.{Updated}
+use Rattle.metrics_booking.specs.declared.Updated.{Updated}
 use Rattle.extended.specs.Update as extended
 use Rattle.metrics_update.specs.Update as update
 use Rattle.replay.specs.declared.Both.{Both}

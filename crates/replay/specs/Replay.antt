@@ -9,7 +9,7 @@ use Rattle.frame.specs.declared.Booked.{Booked}
 use Rattle.rows.specs.declared.ExtendedMOTAccumulator.{ExtendedMOTAccumulator}
 use Rattle.rows.specs.Rows as rows
 use Rattle.metrics.specs.State as metrics
-use Rattle.metrics_update.specs.declared.Updated.{Updated}
+use Rattle.metrics_booking.specs.declared.Updated.{Updated}
 use Rattle.extended.specs.Update as extended
 use Rattle.metrics_update.specs.Update as update
 use Rattle.replay.specs.declared.Both.{Both}

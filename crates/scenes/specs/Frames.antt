@@ -8,7 +8,7 @@ use lib.ListN.{length, take, getD}
 use Rattle.scenes.specs.declared.Scene.{Scene}
 use Rattle.scenes.specs.declared.Scene.the-variants.{Match, Incident, Flat}
 use Rattle.scenes.specs.declared.Sizes.{Sizes}
-use Rattle.scenes.specs.Digits.{sizeOf, idsOf, boxesOf}
+use Rattle.scene_rows.specs.Digits.{sizeOf, Laid}
 use Rattle.scenes.specs.Tables.{matchFrames, matchTruths, matchPredictions, incidentFrames, incidentTruths, incidentPredictions}
 use Rattle.scenes.specs.Tables.{flatFrames, flatTruths, flatPredictions}
 
@@ -56,11 +56,6 @@ pub record Few (s : Sizes) : Type 0 where
   pub predictions : s .predictions ≤ 64
   pub truth-floats : s .«truth_floats» ≡ s .truths * 4
   pub predicted-floats : s .«predicted_floats» ≡ s .predictions * 4
-
--- the ids and the box floats of n rows from a place on stand at the start of two runs
-pub record Laid (rows : List ℕ) (first n : ℕ) (ids : List ℤ) (boxes : List Float) : Type 0 where
-  pub the-ids : take n ids ≡ idsOf rows first n
-  pub the-boxes : take (n * 4) boxes ≡ boxesOf rows first n
 
 -- n ids, and four floats for each, stand at the start of two runs. The parts with take follow from the others; with them a
 -- caller's slices need no proof file

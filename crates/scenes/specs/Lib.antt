@@ -1,3 +1,2 @@
-pub mod Digits
 pub mod Tables
 pub mod Frames

@@ -7,7 +7,7 @@ use lib.IntN.{pos}
 use lib.ListN.{length, getD}
 use Rattle.scenes.specs.declared.Scene.{Scene}
 use Rattle.scenes.specs.declared.Sizes.{Sizes}
-use Rattle.scenes.specs.Digits.{idsOf, boxesOf}
+use Rattle.scene_rows.specs.Digits.{idsOf, boxesOf}
 use Rattle.scenes.specs.Frames.{framesIn, truthsIn, predictionsIn, truthsFrom, predictionsFrom, sizesOf}
 use Rattle.replay.specs.declared.Both.{Both}
 use Rattle.replay.specs.declared.Step.{Step}

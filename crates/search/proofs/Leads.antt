@@ -1,5 +1,5 @@
 -- From a row of closed sets whose columns are all paired no path leads; a row from which a free column is marked has a path. Assumes nothing.
-use Prim.Native.Nat.{ℕ, zero, suc, _<_, _≤_}
+use Prim.Native.Nat.{ℕ, zero, suc, _<_}
 use mathlib.Core.Path.{_≡_, sym, subst}
 use mathlib.Core.Bool.{Bool, true, false, _||_}
 use mathlib.Core.List.{List}
@@ -46,8 +46,6 @@ module _ (n : ℕ) (s : State) (T : Tables n (s .rows) (s .cols)) (a : ℕ) (a-i
     queued zero t l h = absurd (not-suc-le-zero l)
     queued (suc b) zero l h = subst (λ (x : ℕ). P x ≡ true) (sym (good .first)) a-on
     queued (suc b) (suc t) l h =
-        let r : ℕ = getD (B .queue) (suc t) 0 in
-        let j : ℕ = getD (s .rows) (getD (B .queue) (suc t) 0) 0 in
         let hr = good .inside (suc t) h in
         let hj = good .via-in (suc t) (omega arith) h in
         let v = good .via-from (suc t) (omega arith) h in
@@ -104,7 +102,6 @@ module _ (n : ℕ) (s : State) (T : Tables n (s .rows) (s .cols)) (a : ℕ) (a-i
         let w = least P Q (both-closed none)
         (λ i h. or-left (on R i) (in-queue i) h, λ j h. or-left (on C j) (met (B .from) j) h)
         (or-right (on R a) (in-queue a) (in-queue-at a 0 (good .some) (good .first))) in
-        let j : ℕ = free .0 in
         ⊎-elim
         (λ (o : on C (free .0) ≡ true). omega (arith, free .3, all (free .0) (free .1) o))
         (λ (o : met (B .from) (free .0) ≡ true). omega (arith, free .3, good .met-paired none (free .0) (free .1) o))

@@ -1,5 +1,5 @@
 -- The minimum and the correction over listed columns are those over all columns. Assumes nothing.
-use Prim.Native.Nat.{ℕ, zero, suc, _+_, _<_, _≤_}
+use Prim.Native.Nat.{ℕ, zero, suc, _+_, _<_}
 use mathlib.Core.Path.{_≡_, refl, sym, ap, _∙_}
 use mathlib.Core.Bool.{Bool, true, false, not, cond}
 use mathlib.Core.List.{List, [], _∷_}
@@ -10,7 +10,7 @@ use lib.Seq.{getD-set-same, getD-set-other}
 use lib.Ieee.{Float, nan, inf, binary64, add, sub}
 use Rattle.floats.specs.Float.{isZero}
 use borrow.Author.Tests.{not-true, not-false}
-use Rattle.square.specs.Index.{like, loop, on, Picked}
+use Rattle.square.specs.Index.{like, on, Picked}
 use Rattle.square.specs.Square.{at, inRow, least, line}
 use Rattle.square.proofs.Index.{below-more, loop-more, loop-same}
 use Rattle.square.proofs.Picking.{picked-loop}

@@ -1,9 +1,8 @@
 -- The row routine called for row after row: the loop's invariant. Assumes nothing.
-use Prim.Native.Nat.{ℕ, suc, _+_, _<_, _≤_}
+use Prim.Native.Nat.{ℕ, _+_}
 use mathlib.Core.Path.{_≡_, sym, subst}
 use mathlib.Core.Bool.{Bool, true, false}
 use mathlib.Core.List.{List}
-use mathlib.Core.Logic.{⊎-elim}
 use native.Mathlib.Omega.{arith}
 use native.Mathlib.Nat.{not-suc-le-zero}
 use lib.Ieee.{Float}
@@ -11,8 +10,7 @@ use Rattle.square.specs.Index.{on}
 use Rattle.square.specs.Square.{zeroAt}
 use Rattle.square.proofs.Index.{below-more}
 use Rattle.square.proofs.Truth.{not-both}
-use Rattle.search.specs.Inner.{Grown, Looked, Met, RowDone}
-use Rattle.search.specs.Steps.{Closed, Within}
+use Rattle.search.specs.Inner.{Looked, Met, RowDone}
 use Rattle.search.proofs.Marks.{grown-more, grown-none}
 
 module _ (c : List Float) (n : ℕ) (cols : List ℕ) (F R₀ C₀ : List Bool) where

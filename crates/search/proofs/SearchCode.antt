@@ -96,9 +96,6 @@ pub record CorrInv (n : ℕ) (c₀ : List Float) (rows cols : List ℕ) (c : Lis
   pub room : times ≤ 4224
 
 module _ (n : ℕ) (c₀ : List Float) (rows cols : List ℕ) where
-  n-of : {c : List Float} {R C : List Bool} → Marked n c rows cols R C → n ≤ 64
-  n-of h = h .ok .tables .n64
-
   pub corr-begin : (R C : List Bool) → Marked n c₀ rows cols R C → CorrInv n c₀ rows cols c₀ R C 0
   corr-begin R C h = record { marked = h; corrs = none; room = omega arith }
 

@@ -1,11 +1,11 @@
 -- What the row routine, called for all free rows, says of them: the first with a path, or step F's sets; and again after a correction. Assumes nothing.
 use Prim.Native.Nat.{ℕ, _<_, _≤_}
-use mathlib.Core.Path.{_≡_, sym, ap, _∙_, subst}
-use mathlib.Core.Bool.{Bool, true, false, not}
+use mathlib.Core.Path.{_≡_, sym, _∙_}
+use mathlib.Core.Bool.{Bool, true, false}
 use mathlib.Core.List.{List}
 use mathlib.Core.Logic.{⊎-elim}
 use native.Mathlib.Omega.{arith}
-use lib.ListN.{length, getD, length-replicate}
+use lib.ListN.{getD, length-replicate}
 use lib.Ieee.{Float}
 use borrow.Author.Tests.{ltb-true, not-true}
 use Rattle.square.specs.Index.{on}
@@ -13,9 +13,9 @@ use Rattle.square.proofs.Index.{off}
 use Rattle.square.proofs.Truth.{dec, not-both, not-of-false}
 use Rattle.paths.specs.Inner.{Leads}
 use Rattle.paths.specs.Path.{NoPathBelow}
-use Rattle.paths.specs.State.{State, state, Ok, Tables, paired}
+use Rattle.paths.specs.State.{state, Tables, paired}
 use Rattle.search.specs.Inner.{Freed, Hot, Looked, Marked, Met}
-use Rattle.search.specs.Steps.{Blocked, Closed, Reached, Within, leastOver, shiftOf}
+use Rattle.search.specs.Steps.{Blocked, Closed, Reached, shiftOf}
 use Rattle.search.proofs.Grow.{kept}
 use Rattle.search.proofs.Leads.{AllPaired, no-hit-in, leads}
 use Rattle.search.proofs.NoPath.{reached-paired}

@@ -4,8 +4,8 @@
 use lifecycle::TrackLifecycle;
 ghost use mathlib.Core.Path.{_≡_};
 ghost use Prim.Native.Nat.{_≤_};
-ghost use lib.ListN.{length, take};
-ghost use Rattle.slots.specs.Slots.{newSlot, switches, missedSlot, matchedSlot, bookedSlot, idsFilled, countsSound, soundOf};
+ghost use lib.ListN.{length};
+ghost use Rattle.slots.specs.Slots.{newSlot, switches, missedSlot, matchedSlot, bookedSlot, idsFilled, soundOf};
 
 // The prediction that a truth id was last matched to, or none yet.
 pub enum Partner {
@@ -119,11 +119,15 @@ pub fn ids_of(slots: [Slot; 256], used: usize) -> [i32; 256]
     ids
 }
 
-// Whether no slot in use has a negative count.
-fn counts_sound(slots: [Slot; 256], used: usize) -> bool
-    requires { ⌜ used ≤ 256 ⌝ }
-    ensures { λ r. ⌜ r ≡ countsSound (take used slots) ⌝ }
+// Whether a table that is handed in is one that refusal 1 lets by: the counts of each slot in use, and then the ids.
+// (One loop for both: a table that is handed on by value is copied.)
+pub fn sound(slots: [Slot; 256], used: usize) -> bool
+    ensures { λ r. ⌜ r ≡ soundOf slots used ⌝ }
 {
+    if used > 256 {
+        return false;
+    }
+    let mut known = [0i32; 256];
     let mut i: usize = 0;
     while i < used {
         let slot = slots[i];
@@ -131,21 +135,9 @@ fn counts_sound(slots: [Slot; 256], used: usize) -> bool
         if !it.sound() {
             return false;
         }
+        let own = it.gt_id;
+        known[i] = own;
         i = i + 1;
     }
-    true
-}
-
-// Whether a table that is handed in is one that refusal 1 lets by.
-pub fn sound(slots: [Slot; 256], used: usize) -> bool
-    ensures { λ r. ⌜ r ≡ soundOf slots used ⌝ }
-{
-    if used > 256 {
-        return false;
-    }
-    if !counts_sound(slots, used) {
-        return false;
-    }
-    let ids = ids_of(slots, used);
-    ids::distinct(&ids[..used])
+    ids::distinct(&known[..used])
 }

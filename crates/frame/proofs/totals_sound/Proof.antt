@@ -1,6 +1,8 @@
 -- `frame::totals_sound` meets its contract. Assumes nothing.
+use mathlib.Core.List.{[]}
 use lib.Signed.{nonNeg}
 use Rattle.counts.proofs.Ids.{told}
+use Rattle.frame.specs.Frame.{stateWith}
 use Rattle.frame.proofs.Counters.{signs-are}
 use borrow.Author.Needs.{needs}
 use Rattle.frame.proofs.totals_sound.Statement.{statement}
@@ -36,14 +38,14 @@ both-requires c κs = search needs
 returns : tie.Need-returns
 returns c =
     let r = c .before .before .before in
-    let t = r .before .before .before .before .before .before .before .before .before .before .before .before .args .s in
-    signs-are t _ _ _ _ _ _ _ _ _
-    (told nonNeg (t .«frame_id») (r .before .before .before .before .before .before .before .before .before .before .before .struct-told .given .1 .1 .0 .1) (r .before .before .before .before .before .before .before .before .before .before .not-negative .ensures))
-    (told nonNeg (t .«num_matches») (r .before .before .before .before .before .before .before .before .before .struct-told2 .given .1 .1 .1 .0 .1) (r .before .before .before .before .before .before .before .before .not-negative2 .ensures))
-    (told nonNeg (t .«num_misses») (r .before .before .before .before .before .before .before .struct-told3 .given .1 .1 .1 .1 .0 .1) (r .before .before .before .before .before .before .not-negative3 .ensures))
-    (told nonNeg (t .«num_false_positives») (r .before .before .before .before .before .struct-told4 .given .1 .1 .1 .1 .1 .0 .1) (r .before .before .before .before .not-negative4 .ensures))
-    (told nonNeg (t .«num_switches») (r .before .before .before .struct-told5 .given .1 .1 .1 .1 .1 .1 .0 .1) (r .before .before .not-negative5 .ensures))
-    (told nonNeg (t .«num_objects») (r .before .struct-told6 .given .1 .1 .1 .1 .1 .1 .1 .0 .1) (r .not-negative6 .ensures))
+    let t = r .before .before .before .before .before .before .before .before .before .before .before .before .args .t in
+    signs-are (stateWith [] t) _ _ _ _ _ _ _ _ _
+    (told nonNeg (t .«frame_id») (r .before .before .before .before .before .before .before .before .before .before .before .struct-told .given .1 .0 .1) (r .before .before .before .before .before .before .before .before .before .before .not-negative .ensures))
+    (told nonNeg (t .«num_matches») (r .before .before .before .before .before .before .before .before .before .struct-told2 .given .1 .1 .0 .1) (r .before .before .before .before .before .before .before .before .not-negative2 .ensures))
+    (told nonNeg (t .«num_misses») (r .before .before .before .before .before .before .before .struct-told3 .given .1 .1 .1 .0 .1) (r .before .before .before .before .before .before .not-negative3 .ensures))
+    (told nonNeg (t .«num_false_positives») (r .before .before .before .before .before .struct-told4 .given .1 .1 .1 .1 .0 .1) (r .before .before .before .before .not-negative4 .ensures))
+    (told nonNeg (t .«num_switches») (r .before .before .before .struct-told5 .given .1 .1 .1 .1 .1 .0 .1) (r .before .before .not-negative5 .ensures))
+    (told nonNeg (t .«num_objects») (r .before .struct-told6 .given .1 .1 .1 .1 .1 .1 .0 .1) (r .not-negative6 .ensures))
     (c .before .before .all-three .ensures) (c .before .all-three2 .ensures) (c .both .ensures)
 
 pub totals-sound-spec : {M : Type 1} → statement M

@@ -1,7 +1,7 @@
 -- `scenes::frame_at` meets its contract. Assumes nothing.
 use Rattle.scenes.specs.Tables.{matchFrames, matchTruths, matchPredictions, incidentFrames, incidentTruths, incidentPredictions}
 use Rattle.scenes.specs.Tables.{flatFrames, flatTruths, flatPredictions}
-use Rattle.scenes.proofs.Rows.{lent}
+use Rattle.scenes.proofs.Lending.{lent}
 use borrow.Author.Needs.{needs}
 use Rattle.scenes.proofs.frame_at.Statement.{statement}
 use Rattle.scenes.proofs.frame_at.Tie as tie

@@ -1,11 +1,11 @@
 -- `search::search` meets its contract: what was done so far and a run from here make a run from the start. Assumes nothing.
 use Prim.Native.Nat.{_≤_}
-use mathlib.Core.Path.{_≡_, refl}
+use mathlib.Core.Path.{_≡_}
 use mathlib.Core.Bool.{false}
 use native.Mathlib.Omega.{arith}
 use lib.ListN.{length, length-replicate}
 use Rattle.paths.specs.State.{state}
-use Rattle.search.proofs.Exists.{measure, measure-is}
+use Rattle.search.proofs.Exists.{measure}
 use Rattle.search.proofs.Sought.{seek-path, seek-none}
 use Rattle.search.proofs.SearchCode as code
 use Rattle.search.proofs.search.Statement.{statement}

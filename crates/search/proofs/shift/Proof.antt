@@ -1,6 +1,6 @@
 -- `search::shift` meets its contract: past the first `row` rows the square is corrected so far, and the rows are marked. Assumes nothing.
 use Prim.Native.Nat.{_<_, _≤_, _-_}
-use mathlib.Core.Path.{_≡_, refl, sym, ap, _∙_}
+use mathlib.Core.Path.{_≡_, refl, ap, _∙_}
 use mathlib.Core.Logic.{⊎-elim}
 use native.Mathlib.Omega.{arith}
 use lib.ListN.{length}
@@ -65,14 +65,13 @@ loop-again c =
     let lk : k < s .n = omega arith in
     ⊎-elim
     (λ w.
-    let e = over-more _ _ k _ _ _ (v .3) (w .4 ∙ w .3 .ensures .0 ∙ code.row-less (s .rs .now) (s .cs .now) _ k _ _ _ (w .0 .taken) (a .before .before .before .before .pick .ensures) _) in
-    let e' = over-more _ _ k _ _ _ (v .3) (w .3 .ensures .0 ∙ code.row-less (s .rs .now) (s .cs .now) _ k _ _ _ (w .0 .taken) (a .before .before .before .before .pick .ensures) _) in (
+    let e = over-more _ _ k _ _ _ (v .3) (w .3 .ensures .0 ∙ code.row-less (s .rs .now) (s .cs .now) _ k _ _ _ (w .0 .taken) (a .before .before .before .before .pick .ensures) _) in (
       omega arith,
       v .1,
       v .2,
-      e,
+      w .4 ∙ e,
       hot-rows.hot-at _ (v .1) _ _ _ _ (v .2) _ _ _ (w .5)
-          (hot-rows.hot-row _ (v .1) _ _ _ _ (v .2) _ k (v .4) lk _ _ _ (a .before .before .before .before .pick .ensures) _ e' (w .0 .taken) (w .3 .ensures .1)),
+          (hot-rows.hot-row _ (v .1) _ _ _ _ (v .2) _ k (v .4) lk _ _ _ (a .before .before .before .before .pick .ensures) _ e (w .0 .taken) (w .3 .ensures .1)),
     ))
     (λ w. (
       omega arith,

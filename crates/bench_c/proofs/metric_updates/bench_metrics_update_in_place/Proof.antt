@@ -8,11 +8,11 @@ use Rattle.bench_c.proofs.metric_updates.bench_metrics_update_in_place.
 use Rattle.bench_c.proofs.metric_updates.bench_metrics_update_in_place.Tie as tie
 
 abbrev Inv-loop : tie.InvT-loop
-Inv-loop numbers₀ log-distances₀ table₀ hypotheses₀ gt-ids hyp-ids gt-boxes hyp-boxes iou-threshold times used₀ left₀ numbers log-distances table hypotheses used left =
+Inv-loop numbers₀ log-distances₀ table₀ hypotheses₀ truths known gt-ids hyp-ids gt-boxes hyp-boxes iou-threshold times used₀ left₀ numbers log-distances table hypotheses used left =
     Within (runsOf numbers log-distances table hypotheses) used
 
 abbrev μ-loop : tie.MeasureT-loop
-μ-loop numbers₀ log-distances₀ table₀ hypotheses₀ gt-ids hyp-ids gt-boxes hyp-boxes iou-threshold times used₀ left₀ numbers log-distances table hypotheses used left =
+μ-loop numbers₀ log-distances₀ table₀ hypotheses₀ truths known gt-ids hyp-ids gt-boxes hyp-boxes iou-threshold times used₀ left₀ numbers log-distances table hypotheses used left =
     left
 
 returns : tie.Need-returns Inv-loop μ-loop
@@ -27,16 +27,22 @@ returns-3 c = search needs
 returns-4 : tie.Need-returns-4 Inv-loop μ-loop
 returns-4 c = search needs
 
+returns-5 : tie.Need-returns-5 Inv-loop μ-loop
+returns-5 c = search needs
+
+returns-6 : tie.Need-returns-6 Inv-loop μ-loop
+returns-6 c = search needs
+
 loop-holds : tie.Need-loop-holds Inv-loop μ-loop
 loop-holds c =
     record {
-      numbers = c .before .before .before .if1 .left;
-      distances = c .before .before .if2 .left;
-      table = c .before .if3 .left;
-      hypotheses = c .if4 .left;
+      numbers = c .before .before .before .before .before .if1 .left;
+      distances = c .before .before .before .before .if2 .left;
+      table = c .before .before .before .if3 .left;
+      hypotheses = c .before .before .if4 .left;
       few-events = omega arith;
-      few-truths = omega arith;
-      few-hypotheses = omega arith;
+      few-truths = c .before .if5 .left;
+      few-hypotheses = c .if6 .left;
     }
 
 update-in-place-requires : tie.Need-update-in-place-requires Inv-loop μ-loop
@@ -53,7 +59,7 @@ loop-again c =
     let u = c .before .before .before .before .before .before in
     let b = u .before .before .before .before .before .before in
     let l = b .loop in
-    let a = b .before .before .before .before .before .before .before .before .args in
+    let a = b .before .before .before .before .before .before .before .before .before .before .args in
     let w = l .inv in
     let k = used-kept (runsOf (l .numbers) (l .log-distances) (l .table) (l .hypotheses)) (l .used) _ (a .gt-ids .now) (a .hyp-ids .now) (a .gt-boxes .now) (a .hyp-boxes .now) (a .iou-threshold)
     (w .few-events, w .few-truths, w .few-hypotheses) _ (u .update-in-place .result) (u .update-in-place .ensures) in
@@ -69,19 +75,19 @@ loop-again c =
     }
 
 same-length : tie.Need-same-length Inv-loop μ-loop
-same-length c = c .before .loop .inv .numbers ∙ sym (c .before .before .before .before .before .if1 .left)
+same-length c = c .before .loop .inv .numbers ∙ sym (c .before .before .before .before .before .before .before .if1 .left)
 
 same-length-2 : tie.Need-same-length-2 Inv-loop μ-loop
-same-length-2 c = c .before .loop .inv .distances ∙ sym (c .before .before .before .before .if2 .left)
+same-length-2 c = c .before .loop .inv .distances ∙ sym (c .before .before .before .before .before .before .if2 .left)
 
 same-length-3 : tie.Need-same-length-3 Inv-loop μ-loop
-same-length-3 c = c .before .loop .inv .table ∙ sym (c .before .before .before .if3 .left)
+same-length-3 c = c .before .loop .inv .table ∙ sym (c .before .before .before .before .before .if3 .left)
 
 same-length-4 : tie.Need-same-length-4 Inv-loop μ-loop
-same-length-4 c = c .before .loop .inv .hypotheses ∙ sym (c .before .before .if4 .left)
+same-length-4 c = c .before .loop .inv .hypotheses ∙ sym (c .before .before .before .before .if4 .left)
 
-returns-5 : tie.Need-returns-5 Inv-loop μ-loop
-returns-5 c = search needs
+returns-7 : tie.Need-returns-7 Inv-loop μ-loop
+returns-7 c = search needs
 
 pub bench-metrics-update-in-place-spec : {M : Type 1} → statement M
 bench-metrics-update-in-place-spec =
@@ -93,6 +99,8 @@ bench-metrics-update-in-place-spec =
     returns-2
     returns-3
     returns-4
+    returns-5
+    returns-6
     loop-holds
     update-in-place-requires
     sub-left
@@ -102,4 +110,4 @@ bench-metrics-update-in-place-spec =
     same-length-2
     same-length-3
     same-length-4
-    returns-5)
+    returns-7)
