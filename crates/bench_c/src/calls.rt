@@ -10,8 +10,8 @@ pub extern "C" fn bench_iou_distances(boxes: &[f64]) -> f64 {
     let mut total = 0.0f64;
     let mut i: usize = 0;
     while i < count {
-        let first = matrix::box_at(boxes, 0);
-        let other = matrix::box_at(boxes, i);
+        let first = matrix_numbers::box_at(boxes, 0);
+        let other = matrix_numbers::box_at(boxes, i);
         if let Distance::Value(d) = iou::iou_distance(first, other) {
             total = total + d;
         }
