@@ -1,8 +1,10 @@
 // A run of ids: where an id stands in it, and whether one stands twice.
 // It takes the place of the hash maps of norfair-rs, internal/motmetrics/accumulator.rs (NOTICE).
 ghost use mathlib.Core.Path.{_≡_};
+ghost use mathlib.Core.Bool.{true};
 ghost use Prim.Native.Nat.{_<_, _≤_};
 ghost use lib.ListN.{length, take};
+ghost use lib.Signed.{ltZ};
 ghost use Rattle.ids.specs.Ids.{seekOf, isAbsent, distinctOf};
 ghost use Rattle.ids.specs.Chains.{bucketOf, Last, Chained};
 
@@ -37,6 +39,9 @@ const MOST: usize = 1024;
 pub fn distinct(ids: &[i32]) -> bool
     ensures { λ r. ⌜ r ≡ distinctOf (now (ids .entry)) ⌝ }
 {
+    if rising(ids) {
+        return true;
+    }
     let n = ids.len();
     if n <= FEW {
         return distinct_by_pairs(ids);
@@ -45,6 +50,30 @@ pub fn distinct(ids: &[i32]) -> bool
         return distinct_by_pairs(ids);
     }
     distinct_by_chains(ids)
+}
+
+fn below(a: i32, b: i32) -> bool
+    ensures { λ r. ⌜ r ≡ ltZ a b ⌝ }
+{
+    a < b
+}
+
+// Whether each id stands above the one before it, as where ids are given out in turn: then none stands twice. It goes on to the end
+// whatever it finds, so that the compiler can test several at a time.
+fn rising(ids: &[i32]) -> bool
+    ensures { λ r. ⌜ (r ≡ true → distinctOf (now (ids .entry)) ≡ true) ⌝ }
+{
+    let n = ids.len();
+    let mut up = true;
+    let mut i: usize = 1;
+    while i < n {
+        let before = i - 1;
+        if !below(ids[before], ids[i]) {
+            up = false;
+        }
+        i = i + 1;
+    }
+    up
 }
 
 // Every id is looked up in those after it.
