@@ -15,21 +15,22 @@ ghost use Rattle.frame.specs.Frame.{soundState};
 ghost use Rattle.inplace.specs.InPlace.{stateOf};
 ghost use Rattle.extended_flat.specs.Flat.{totalsIn, countersOf, wholeOf, Checked, Answered};
 
-// Whether no slot in use has a negative count.
+// Whether no slot in use has a negative count. It goes on to the end whatever it finds, so that the compiler can test several at a time.
 fn counts_sound(run: &[i32], used: usize) -> bool
     requires { ⌜ (used ≤ 256) × (length (now run) ≡ 2304) ⌝ }
     ensures { λ r. ⌜ r ≡ countsSound (take used (slotsOf (now (run .entry)))) ⌝ }
 {
+    let mut all = true;
     let mut i: usize = 0;
     while i < used {
         let slot = columns::slot_of(columns::read(run, 256, i));
         let it = slot.lifecycle;
         if !it.sound() {
-            return false;
+            all = false;
         }
         i = i + 1;
     }
-    true
+    all
 }
 
 // Whether a table that is handed in is one that refusal 1 lets by.
