@@ -23,7 +23,7 @@ fn answer_events(
     session::unknown(from, to, s)
 }
 
-// The accumulators' requests.
+// The requests of lifecycles and of the accumulators.
 fn answer_frames(
     name: &[u8],
     from: &mut [u8; 65536],
@@ -32,6 +32,9 @@ fn answer_frames(
     b: &mut [f64],
     s: Session,
 ) -> Session {
+    if let Reply::Given(t) = lifecycle_requests::answer(name, from, to, s) {
+        return t;
+    }
     if let Reply::Given(t) = extended_requests::answer(name, from, to, a, b, s) {
         return t;
     }
@@ -48,7 +51,13 @@ fn answer(
     c: &mut [f64],
     s: Session,
 ) -> Session {
-    if let Reply::Given(t) = requests::answer(name, from, to, a, b, c, s) {
+    if let Reply::Given(t) = float_requests::answer(name, from, to, s) {
+        return t;
+    }
+    if let Reply::Given(t) = box_requests::answer(name, from, to, a, b, c, s) {
+        return t;
+    }
+    if let Reply::Given(t) = search_requests::answer(name, from, to, a, s) {
         return t;
     }
     answer_frames(name, from, to, a, b, s)

@@ -1,8 +1,6 @@
 // Tables of ids as words.
 ghost use Prim.Native.Nat.{_≤_};
 use crate::logs::places_shown;
-use extended_requests::states::read_partner;
-use extended_requests::states::say_partner;
 use lines::input;
 use lines::input::Reader;
 use lines::output::Writer;
@@ -11,6 +9,8 @@ use lines::session::say_whole;
 use partners::Last;
 use partners::Truths;
 use seen::Hypotheses;
+use state_requests::read_partner;
+use state_requests::say_partner;
 
 // A table, and how many of its places were given.
 pub struct ReadTruths {

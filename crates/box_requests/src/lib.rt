@@ -1,4 +1,4 @@
-// The requests of module 1: boxes, and the two matrices.
+// The requests of module 1: boxes, and the two matrices (oracle/PROTOCOL.md).
 ghost use Prim.Native.Nat.{_≤_};
 ghost use lib.ListN.{length};
 ghost use Rattle.lines.specs.Cursors.{Front};

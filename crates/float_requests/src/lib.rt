@@ -1,4 +1,4 @@
-// The requests on single floats.
+// The requests on single floats (oracle/PROTOCOL.md).
 use float_bits::computed;
 use lines::input;
 use lines::output;

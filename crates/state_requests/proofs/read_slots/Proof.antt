@@ -1,8 +1,8 @@
--- `extended_requests::states::read_slots` is safe and ends: it stays within 256 places. Assumes nothing.
+-- `state_requests::read_slots` is safe and ends: it stays within 256 places. Assumes nothing.
 use Prim.Native.Nat.{_≤_, _-_}
 use borrow.Author.Needs.{needs}
-use Rattle.extended_requests.proofs.states.read_slots.Statement.{statement}
-use Rattle.extended_requests.proofs.states.read_slots.Tie as tie
+use Rattle.state_requests.proofs.read_slots.Statement.{statement}
+use Rattle.state_requests.proofs.read_slots.Tie as tie
 
 abbrev Inv-loop : tie.InvT-loop
 Inv-loop from₀ n state₀ q₀ i₀ from state q i = (i ≤ n) × (n ≤ 256)

@@ -1,4 +1,4 @@
-// A lifecycle as words, and the requests of one.
+// A lifecycle as words, and the requests of one (oracle/PROTOCOL.md).
 use lifecycle::TrackLifecycle;
 use lifecycle::Updated;
 use lines::input;

@@ -1,7 +1,7 @@
--- `extended_requests::frames::play_frame` is safe: the runs that are read keep their lengths. Assumes nothing.
+-- `extended_requests::play_frame` is safe: the runs that are read keep their lengths. Assumes nothing.
 use borrow.Author.Needs.{needs}
-use Rattle.extended_requests.proofs.frames.play_frame.Statement.{statement}
-use Rattle.extended_requests.proofs.frames.play_frame.Tie as tie
+use Rattle.extended_requests.proofs.play_frame.Statement.{statement}
+use Rattle.extended_requests.proofs.play_frame.Tie as tie
 
 slice-aggregate-read-side : tie.Need-slice-aggregate-read-side
 slice-aggregate-read-side c = search needs

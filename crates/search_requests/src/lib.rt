@@ -1,4 +1,4 @@
-// The request of module 2: the solver.
+// The request of module 2: the solver (oracle/PROTOCOL.md).
 ghost use Prim.Native.Nat.{_≤_};
 ghost use Rattle.lines.specs.Cursors.{Front};
 use lines::input;

@@ -1,8 +1,8 @@
 // A state of the extended accumulator as words.
 ghost use Prim.Native.Nat.{_≤_};
-use crate::lifecycles::flag;
-use crate::lifecycles::read_lifecycle;
-use crate::lifecycles::say_lifecycle;
+use lifecycle_requests::flag;
+use lifecycle_requests::read_lifecycle;
+use lifecycle_requests::say_lifecycle;
 use lines::input;
 use lines::input::Reader;
 use lines::output;

@@ -1,10 +1,10 @@
--- `requests::box_requests::written` meets its contract. Assumes nothing.
+-- `box_requests::written` meets its contract. Assumes nothing.
 use Prim.Native.Nat.{_/_, _≤_}
 use native.Mathlib.Omega.{arith}
 use native.Mathlib.Nat.{mul-le-mul}
 use borrow.Author.Needs.{needs}
-use Rattle.requests.proofs.box_requests.written.Statement.{statement}
-use Rattle.requests.proofs.box_requests.written.Tie as tie
+use Rattle.box_requests.proofs.written.Statement.{statement}
+use Rattle.box_requests.proofs.written.Tie as tie
 
 returns : tie.Need-returns
 returns c = search needs

@@ -1,8 +1,8 @@
--- `extended_requests::states::say_slots` is safe and ends: it stays within 256 places. Assumes nothing.
+-- `state_requests::say_slots` is safe and ends: it stays within 256 places. Assumes nothing.
 use Prim.Native.Nat.{_≤_, _-_}
 use borrow.Author.Needs.{needs}
-use Rattle.extended_requests.proofs.states.say_slots.Statement.{statement}
-use Rattle.extended_requests.proofs.states.say_slots.Tie as tie
+use Rattle.state_requests.proofs.say_slots.Statement.{statement}
+use Rattle.state_requests.proofs.say_slots.Tie as tie
 
 abbrev Inv-loop : tie.InvT-loop
 Inv-loop to₀ given s n q₀ i₀ to q i = (i ≤ n) × (n ≤ 256)
