@@ -238,5 +238,5 @@ pub fn sound(s: ExtendedMOTAccumulator) -> bool
     }
     let table = s.slots;
     let used = s.used;
-    slots::sound(table, used)
+    slot_tables::sound(table, used)
 }

@@ -28,7 +28,7 @@ pub fn book_rows(
     ensures { λ r. ⌜ (r ≡ trialAfter (rowAt (now («gt_ids» .entry)) (now («pred_ids» .entry)) (now («pair_rows» .entry)) (now («pair_cols» .entry)) (now («left_rows» .entry)) pairs) frame s (pairs + lefts)) × (r .switches ≤ pairs + lefts) ⌝ }
 {
     let mut t = s;
-    let mut ids = slots::ids_of(t.slots, t.used);
+    let mut ids = slot_tables::ids_of(t.slots, t.used);
     let mut full = false;
     let mut over = false;
     let mut switches: usize = 0;

@@ -1,14 +1,14 @@
--- `slots::ids_of` meets its contract. The first i places hold the ids of the first i slots. Assumes nothing.
+-- `slot_tables::ids_of` meets its contract. The first i places hold the ids of the first i slots. Assumes nothing.
 use borrow.Author.Needs.{needs}
 use mathlib.Core.Path.{_≡_, refl}
 use Prim.Native.Nat.{_≤_, _-_}
 use native.Mathlib.Omega.{arith}
 use lib.ListN.{length, getD}
 use Rattle.counts.proofs.Ids.{back}
 use Rattle.slots.specs.Slots.{idsFilled, idOf, noSlot}
 use Rattle.slots.proofs.Tables.{ids-more}
-use Rattle.slots.proofs.ids_of.Statement.{statement}
-use Rattle.slots.proofs.ids_of.Tie as tie
+use Rattle.slot_tables.proofs.ids_of.Statement.{statement}
+use Rattle.slot_tables.proofs.ids_of.Tie as tie
 
 abbrev Inv-loop : tie.InvT-loop
 Inv-loop used slots ids₀ i₀ ids i = (i ≤ used) × (length slots ≡ 256) × (ids ≡ idsFilled slots i)

@@ -1,4 +1,4 @@
--- `slots::sound` meets its contract. The first i places hold the ids of the first i slots, and the counts from place i on decide what all of
+-- `slot_tables::sound` meets its contract. The first i places hold the ids of the first i slots, and the counts from place i on decide what all of
 -- them do. Assumes nothing.
 use borrow.Author.Needs.{needs}
 use mathlib.Core.Path.{_≡_, refl, sym, ap, _∙_}
@@ -10,10 +10,10 @@ use lib.ListN.{length, take, drop, getD, drop-of-length-le}
 use lib.Seq.{length-take-le}
 use Rattle.counts.proofs.Ids.{back}
 use Rattle.ids.specs.Ids.{distinctOf}
 use Rattle.slots.specs.Slots.{noSlot, idOf, idsFilled, countsSound, soundOf}
 use Rattle.slots.proofs.Tables.{filled-long, ids-taken, ids-more, count-bad, count-next}
-use Rattle.slots.proofs.sound.Statement.{statement}
-use Rattle.slots.proofs.sound.Tie as tie
+use Rattle.slot_tables.proofs.sound.Statement.{statement}
+use Rattle.slot_tables.proofs.sound.Tie as tie
 
 abbrev Inv-loop : tie.InvT-loop
 Inv-loop used slots known₀ i₀ known i =
