@@ -67,14 +67,12 @@ pub extern "C" fn bench_update_in_place(
     if used > 256 {
         return 0.0;
     }
-    let mut square = [0.0f64; 4096];
     let mut totals = Totals::new();
     totals.used = used;
     let mut left = times;
     while left > 0 {
         let c = extended_in_place::update_in_place(
             run,
-            &mut square,
             totals,
             gt_ids,
             gt_bboxes,

@@ -19,7 +19,7 @@ use Rattle.pairing.specs.declared.Pairing.{Pairing}
 use Rattle.shape.specs.Shape.{shapeNo}
 use Rattle.shape.proofs.Sides.{Side, sides}
 use Rattle.pairing.specs.Pairing.{pairingNo, noPairs, pairedOf, framePairs, pairingAt, pairingOf}
-use Rattle.lent_square.proofs.Taken.{taken}
+use Rattle.optimize.proofs.Number.{taken}
 use Rattle.pairing.proofs.Ways.{accept}
 use Rattle.extended.specs.Update.{Lie}
 

@@ -78,10 +78,8 @@ fn update_checked(
             totals: totals,
         };
     }
-    let mut square = [0.0f64; 4096];
     extended_in_place::update_in_place(
         run,
-        &mut square,
         totals,
         gt_ids,
         gt_bboxes,

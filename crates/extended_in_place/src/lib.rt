@@ -6,8 +6,7 @@ use inplace::Closed;
 use pairing::Pairing;
 ghost use mathlib.Core.Path.{_≡_};
 ghost use Prim.Native.Nat.{_≤_};
-ghost use lib.ListN.{length, replicate};
-ghost use Rattle.floats.specs.Float.{zero64};
+ghost use lib.ListN.{length};
 ghost use Rattle.extended.specs.Update.{Lie, rowsIn};
 ghost use Rattle.inplace.specs.InPlace.{Framed};
 ghost use Rattle.extended_in_place.specs.Updated.{Updated};
@@ -37,10 +36,8 @@ fn book(run: &mut [i32], totals: Totals, gt_ids: &[i32], pred_ids: &[i32], p: Pa
 }
 
 // The update of a state that is sound already, in its lent table: 2, 3, 4, 5, 7 or 0, and the totals. Of soundness it needs the used count alone.
-// The square is the search's: zeros when it comes, and zeros when it goes.
 pub fn update_in_place(
     run: &mut [i32],
-    square: &mut [f64; 4096],
     totals: Totals,
     gt_ids: &[i32],
     gt_bboxes: &[f64],
@@ -48,14 +45,13 @@ pub fn update_in_place(
     pred_bboxes: &[f64],
     threshold: f64,
 ) -> Closed
-    requires { ⌜ (totals .used ≤ 256) × (length (now run) ≡ 2304) × (now square ≡ replicate 4096 zero64) ⌝ }
-    ensures { λ r. ⌜ now (square .exit) ≡ replicate 4096 zero64 ⌝ }
+    requires { ⌜ (totals .used ≤ 256) × (length (now run) ≡ 2304) ⌝ }
     ensures { λ r. ⌜ Updated (now (run .entry)) totals (now («gt_ids» .entry)) (now («gt_bboxes» .entry)) (now («pred_ids» .entry)) (now («pred_bboxes» .entry)) threshold (now (run .exit)) r ⌝ }
 {
     let total = totals.total_distance;
     let h = gt_ids.len();
     let w = pred_ids.len();
-    let p = pairing::pair_with(h, gt_bboxes, w, pred_bboxes, threshold, total, square);
+    let p = pairing::pair(h, gt_bboxes, w, pred_bboxes, threshold, total);
     if p.number != 0 {
         return Closed {
             number: p.number,

@@ -5,7 +5,7 @@ use mathlib.Core.Bool.{Bool, true, false, cond, _&&_, _||_}
 use mathlib.Core.Logic.{_⊎_, inl, inr, ⊎-elim}
 use native.Mathlib.Omega.{arith}
 use lib.Dec.{ltb, eqb}
-use borrow.Author.Tests.{ltb-true, ltb-false, eqb-true, eqb-false}
+use borrow.Author.Tests.{ltb-true, ltb-false, le-ltb, eqb-true, eqb-false, eq-eqb, ne-eqb}
 use Rattle.optimize.specs.Answer.{assignmentNo}
 
 module _ (len h w : ℕ) where
@@ -40,3 +40,8 @@ module _ (len h w : ℕ) where
       (λ (x : (assignmentNo len h w ≡ 2) × Large). absurd (omega (arith, x .0)))
       (λ y. ⊎-elim (λ (x : (assignmentNo len h w ≡ 3) × Misfit). absurd (omega (arith, x .0))) (λ (x : (assignmentNo len h w ≡ 0) × Fits). x .1) y)
       number-is
+
+  -- a matrix with rows, in shape, is taken
+  pub taken : 0 < h → h ≤ 64 → w ≤ 64 → len ≡ h * w → assignmentNo len h w ≡ 0
+  unfolding assignmentNo
+  taken some hh hw e = simp (le-ltb 64 h hh, le-ltb 64 w hw, ne-eqb h 0 (λ (z : h ≡ 0). omega arith), eq-eqb len (h * w) e)

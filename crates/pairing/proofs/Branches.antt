@@ -18,7 +18,7 @@ use Rattle.pairing.specs.declared.Pairing.{Pairing}
 use Rattle.shape.specs.Shape.{shapeNo}
 use Rattle.shape.proofs.Sides.{Side, sides}
 use Rattle.pairing.specs.Pairing.{pairingNo, sumOf, noPairs, pairsIn, pairedOf, framePairs, pairingOf}
-use Rattle.lent_square.proofs.Taken.{taken}
+use Rattle.optimize.proofs.Number.{taken}
 use Rattle.pairing.proofs.Ways.{accept}
 
 -- no pair, so many rows left and predictions extra, and the total as it was

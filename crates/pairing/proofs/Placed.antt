@@ -7,7 +7,7 @@ use lib.ListN.{length, getD}
 use lib.Ieee.{Float}
 use Rattle.optimize.specs.declared.AssignmentResult.{AssignmentResult}
 use Rattle.solver.specs.Solution.{solutionOf}
-use Rattle.lent_square.proofs.Taken.{taken}
+use Rattle.optimize.proofs.Number.{taken}
 use Rattle.solver.proofs.Lists.{Placed, solution-placed}
 use Rattle.pairing.specs.declared.Pairing.{Pairing}
 use Rattle.pairing.specs.Pairing.{rowsOf, colsOf, sumOf, pairsIn, pairedOf}

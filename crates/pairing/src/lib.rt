@@ -3,8 +3,7 @@
 use optimize::Assignment;
 ghost use mathlib.Core.Path.{_≡_};
 ghost use Prim.Native.Nat.{ℕ, _+_, _*_, _<_, _≤_};
-ghost use lib.ListN.{length, getD, replicate};
-ghost use Rattle.floats.specs.Float.{zero64};
+ghost use lib.ListN.{length, getD};
 ghost use Rattle.shape.specs.Shape.{shapeNo};
 ghost use Rattle.pairing.specs.Pairing.{rowsOf, colsOf, sumOf, pairedOf, noPairs, pairingOf};
 
@@ -90,18 +89,11 @@ fn no_pairs(number: u32, extra: usize, total: f64) -> Pairing
 }
 
 // The pairing of a frame with truth, whose distances are known.
-fn paired(
-    m: &[f64],
-    h: usize,
-    w: usize,
-    max_cost: f64,
-    total: f64,
-    square: &mut [f64; 4096],
-) -> Pairing
-    requires { ⌜ (0 < h) × (h ≤ 64) × (w ≤ 64) × (length (now m) ≡ h * w) × (now square ≡ replicate 4096 zero64) ⌝ }
-    ensures { λ r. ⌜ (r ≡ pairedOf (now (m .entry)) h w «max_cost» total) × (now (square .exit) ≡ replicate 4096 zero64) ⌝ }
+fn paired(m: &[f64], h: usize, w: usize, max_cost: f64, total: f64) -> Pairing
+    requires { ⌜ (0 < h) × (h ≤ 64) × (w ≤ 64) × (length (now m) ≡ h * w) ⌝ }
+    ensures { λ r. ⌜ r ≡ pairedOf (now (m .entry)) h w «max_cost» total ⌝ }
 {
-    let a = lent_square::solve_in(m, h, w, max_cost, square);
+    let a = solver::solve(m, h, w, max_cost);
     let assignments = a.assignments;
     let left_rows = a.unmatched_rows;
     let pairs = a.num_assignments;
@@ -129,11 +121,10 @@ fn pair_in(
     threshold: f64,
     total: f64,
     m: &mut [f64],
-    square: &mut [f64; 4096],
 ) -> Pairing
     requires { ⌜ shapeNo «gt_ids» (length (now «gt_bboxes»)) «pred_ids» (length (now «pred_bboxes»)) ≡ 0 ⌝ }
-    requires { ⌜ («gt_ids» * «pred_ids» ≤ length (now m)) × (now square ≡ replicate 4096 zero64) ⌝ }
-    ensures { λ r. ⌜ (r ≡ pairingOf «gt_ids» (now («gt_bboxes» .entry)) «pred_ids» (now («pred_bboxes» .entry)) threshold total) × (now (square .exit) ≡ replicate 4096 zero64) ⌝ }
+    requires { ⌜ «gt_ids» * «pred_ids» ≤ length (now m) ⌝ }
+    ensures { λ r. ⌜ r ≡ pairingOf «gt_ids» (now («gt_bboxes» .entry)) «pred_ids» (now («pred_bboxes» .entry)) threshold total ⌝ }
 {
     let boxes = matrix::compute_iou_distance_matrix(gt_bboxes, pred_bboxes, m);
     if boxes != 0 {
@@ -143,23 +134,20 @@ fn pair_in(
         return no_pairs(0, pred_ids, total);
     }
     let n = gt_ids * pred_ids;
-    paired(&m[..n], gt_ids, pred_ids, threshold, total, square)
+    paired(&m[..n], gt_ids, pred_ids, threshold, total)
 }
 
-// The pairing of a frame of so many ids and these boxes, or its number. The total is the sum of distances so far. The square is
-// the search's: zeros when it comes, zeros when it goes, so that a loop over frames clears it once.
+// The pairing of a frame of so many ids and these boxes, or its number. The total is the sum of distances so far.
 // (Three sizes of matrix: to clear 4,096 places costs more than all else of a small frame.)
-pub fn pair_with(
+pub fn pair(
     gt_ids: usize,
     gt_bboxes: &[f64],
     pred_ids: usize,
     pred_bboxes: &[f64],
     threshold: f64,
     total: f64,
-    square: &mut [f64; 4096],
 ) -> Pairing
-    requires { ⌜ now square ≡ replicate 4096 zero64 ⌝ }
-    ensures { λ r. ⌜ (r ≡ pairingOf «gt_ids» (now («gt_bboxes» .entry)) «pred_ids» (now («pred_bboxes» .entry)) threshold total) × (now (square .exit) ≡ replicate 4096 zero64) ⌝ }
+    ensures { λ r. ⌜ r ≡ pairingOf «gt_ids» (now («gt_bboxes» .entry)) «pred_ids» (now («pred_bboxes» .entry)) threshold total ⌝ }
 {
     let shape = shape::shape_no(gt_ids, gt_bboxes.len(), pred_ids, pred_bboxes.len());
     if shape != 0 {
@@ -176,7 +164,6 @@ pub fn pair_with(
             threshold,
             total,
             &mut small,
-            square,
         );
     }
     if n <= 1024 {
@@ -189,7 +176,6 @@ pub fn pair_with(
             threshold,
             total,
             &mut middle,
-            square,
         );
     }
     let mut large = [0.0f64; 4096];
@@ -201,29 +187,5 @@ pub fn pair_with(
         threshold,
         total,
         &mut large,
-        square,
-    )
-}
-
-// The same with a square of its own.
-pub fn pair(
-    gt_ids: usize,
-    gt_bboxes: &[f64],
-    pred_ids: usize,
-    pred_bboxes: &[f64],
-    threshold: f64,
-    total: f64,
-) -> Pairing
-    ensures { λ r. ⌜ r ≡ pairingOf «gt_ids» (now («gt_bboxes» .entry)) «pred_ids» (now («pred_bboxes» .entry)) threshold total ⌝ }
-{
-    let mut square = [0.0f64; 4096];
-    pair_with(
-        gt_ids,
-        gt_bboxes,
-        pred_ids,
-        pred_bboxes,
-        threshold,
-        total,
-        &mut square,
     )
 }

@@ -6,25 +6,23 @@ use borrow.Author.Needs.{needs}
 use Rattle.extended_in_place.proofs.update_in_place.Statement.{statement}
 use Rattle.extended_in_place.proofs.update_in_place.Tie as tie
 
-pair-with-requires : tie.Need-pair-with-requires
-pair-with-requires c κs = search needs
+pair-requires : tie.Need-pair-requires
+pair-requires c κs = search needs
 
 returns : tie.Need-returns
 returns c =
     let p = c .before .before in
-    let a = p .before .before .before .before .args in (
-      p .pair-with .ensures .1,
-      ways.unpaired (a .run .now) (a .totals) (a .gt-ids .now) (a .gt-bboxes .now) (a .pred-ids .now) (a .pred-bboxes .now) (a .threshold) (p .pair-with .result) (p .pair-with .ensures .0) (c .if1 .taken),
-    )
+    let a = p .before .before .before .args in
+    ways.unpaired (a .run .now) (a .totals) (a .gt-ids .now) (a .gt-bboxes .now) (a .pred-ids .now) (a .pred-bboxes .now) (a .threshold) (p .pair .result) (p .pair .ensures) (c .if1 .taken)
 
 book-requires : tie.Need-book-requires
 book-requires c κs =
     let e = c .before in
     let p = e .before .before in
-    let s = p .before .before .before .before in
+    let s = p .before .before .before in
     let a = s .args in (
       (s .pre .0, s .pre .1),
-      extended.lies (stateOf (a .run .now) (a .totals)) (a .gt-ids .now) (a .gt-bboxes .now) (a .pred-ids .now) (a .pred-bboxes .now) (a .threshold) (p .pair-with .result) (p .pair-with .ensures .0) (e .if1 .left),
+      extended.lies (stateOf (a .run .now) (a .totals)) (a .gt-ids .now) (a .gt-bboxes .now) (a .pred-ids .now) (a .pred-bboxes .now) (a .threshold) (p .pair .result) (p .pair .ensures) (e .if1 .left),
     )
 
 same-length : tie.Need-same-length
@@ -35,12 +33,10 @@ returns-2 c =
     let b = c .before in
     let e = b .before .before in
     let p = e .before .before in
-    let a = p .before .before .before .before .args in (
-      p .pair-with .ensures .1,
-      ways.booked (a .run .now) (a .totals) (a .gt-ids .now) (a .gt-bboxes .now) (a .pred-ids .now) (a .pred-bboxes .now) (a .threshold) (p .pair-with .result) (p .pair-with .ensures .0) (e .if1 .left)
-          (b .book .last .0) (b .book .result) (b .book .ensures),
-    )
+    let a = p .before .before .before .args in
+    ways.booked (a .run .now) (a .totals) (a .gt-ids .now) (a .gt-bboxes .now) (a .pred-ids .now) (a .pred-bboxes .now) (a .threshold) (p .pair .result) (p .pair .ensures) (e .if1 .left)
+    (b .book .last .0) (b .book .result) (b .book .ensures)
 
 pub update-in-place-spec : {M : Type 1} → statement M
 update-in-place-spec =
-    tie.close (tie.spec pair-with-requires returns book-requires same-length returns-2)
+    tie.close (tie.spec pair-requires returns book-requires same-length returns-2)

@@ -21,12 +21,10 @@ unfolding ofBits
 returns c =
     let d = c .before .before .before .before in
     let s = d .before .before .before .before .before in
-    let a = s .args in (
-      c .no-pairs .ensures
-          ∙ ways.bad-box (a .gt-ids) (a .gt-bboxes .now) (a .pred-ids) (a .pred-bboxes .now) (a .threshold) (a .total) _ refl (s .pre .0) (a .m .now) (s .pre .1 .0)
-          (d .compute-iou-distance-matrix .result) (d .compute-iou-distance-matrix .ensures .0) (c .before .if1 .taken),
-      s .pre .1 .1,
-    )
+    let a = s .args in
+    c .no-pairs .ensures
+    ∙ ways.bad-box (a .gt-ids) (a .gt-bboxes .now) (a .pred-ids) (a .pred-bboxes .now) (a .threshold) (a .total) _ refl (s .pre .0) (a .m .now) (s .pre .1)
+    (d .compute-iou-distance-matrix .result) (d .compute-iou-distance-matrix .ensures .0) (c .before .if1 .taken)
 
 no-pairs-requires-2 : tie.Need-no-pairs-requires-2
 no-pairs-requires-2 c κs = search needs
@@ -39,12 +37,10 @@ returns-2 c =
     let e = c .before .before in
     let d = e .before .before .before in
     let s = d .before .before .before .before .before in
-    let a = s .args in (
-      c .no-pairs2 .ensures
-          ∙ ways.no-truth (a .gt-ids) (a .gt-bboxes .now) (a .pred-ids) (a .pred-bboxes .now) (a .threshold) (a .total) _ refl (s .pre .0) (a .m .now) (s .pre .1 .0)
-          (d .compute-iou-distance-matrix .result) (d .compute-iou-distance-matrix .ensures .0) (e .if1 .left) (c .before .if2 .taken),
-      s .pre .1 .1,
-    )
+    let a = s .args in
+    c .no-pairs2 .ensures
+    ∙ ways.no-truth (a .gt-ids) (a .gt-bboxes .now) (a .pred-ids) (a .pred-bboxes .now) (a .threshold) (a .total) _ refl (s .pre .0) (a .m .now) (s .pre .1)
+    (d .compute-iou-distance-matrix .result) (d .compute-iou-distance-matrix .ensures .0) (e .if1 .left) (c .before .if2 .taken)
 
 mul-n : tie.Need-mul-n
 mul-n c = search needs
@@ -58,23 +54,22 @@ slice-aggregate-paired c =
     let d = e .before .before .before in
     let s = d .before .before .before .before .before in
     let a = s .args in
-    sym (ways.part-size (a .gt-ids) (a .gt-bboxes .now) (a .pred-ids) (a .pred-bboxes .now) (a .threshold) (a .total) _ refl (s .pre .0) (a .m .now) (s .pre .1 .0)
+    sym (ways.part-size (a .gt-ids) (a .gt-bboxes .now) (a .pred-ids) (a .pred-bboxes .now) (a .threshold) (a .total) _ refl (s .pre .0) (a .m .now) (s .pre .1)
     (d .compute-iou-distance-matrix .result) (d .compute-iou-distance-matrix .ensures .0) (e .if1 .left) _ (d .compute-iou-distance-matrix .ensures .1))
 
 paired-requires : tie.Need-paired-requires
 paired-requires c κs =
-    let e = c .before .before .before in
+    let e = c .before .before in
     let d = e .before .before .before in
     let s = d .before .before .before .before .before in
     let a = s .args in
     let p = ways.both-sides (a .gt-ids) (a .gt-bboxes .now) (a .pred-ids) (a .pred-bboxes .now) (a .threshold) (a .total) _ refl (s .pre .0) in
-    let x = c .before .before .if2 .left in (
+    let x = c .before .if2 .left in (
       omega arith,
       p .0 .few,
       p .1 .few,
-      ways.part-size (a .gt-ids) (a .gt-bboxes .now) (a .pred-ids) (a .pred-bboxes .now) (a .threshold) (a .total) _ refl (s .pre .0) (a .m .now) (s .pre .1 .0)
+      ways.part-size (a .gt-ids) (a .gt-bboxes .now) (a .pred-ids) (a .pred-bboxes .now) (a .threshold) (a .total) _ refl (s .pre .0) (a .m .now) (s .pre .1)
           (d .compute-iou-distance-matrix .result) (d .compute-iou-distance-matrix .ensures .0) (e .if1 .left) _ (d .compute-iou-distance-matrix .ensures .1),
-      s .pre .1 .1,
     )
 
 same-length-3 : tie.Need-same-length-3
@@ -82,16 +77,14 @@ same-length-3 c = search needs
 
 returns-3 : tie.Need-returns-3
 returns-3 c =
-    let b = c .before .before .before in
+    let b = c .before .before in
     let e = b .before in
     let d = e .before .before .before in
     let s = d .before .before .before .before .before in
-    let a = s .args in (
-      c .paired .ensures .0
-          ∙ ways.by-search (a .gt-ids) (a .gt-bboxes .now) (a .pred-ids) (a .pred-bboxes .now) (a .threshold) (a .total) _ refl (s .pre .0) (a .m .now) (s .pre .1 .0)
-          (d .compute-iou-distance-matrix .result) (d .compute-iou-distance-matrix .ensures .0) (e .if1 .left) _ (d .compute-iou-distance-matrix .ensures .1) (b .if2 .left),
-      c .paired .ensures .1,
-    )
+    let a = s .args in
+    c .paired .ensures
+    ∙ ways.by-search (a .gt-ids) (a .gt-bboxes .now) (a .pred-ids) (a .pred-bboxes .now) (a .threshold) (a .total) _ refl (s .pre .0) (a .m .now) (s .pre .1)
+    (d .compute-iou-distance-matrix .result) (d .compute-iou-distance-matrix .ensures .0) (e .if1 .left) _ (d .compute-iou-distance-matrix .ensures .1) (b .if2 .left)
 
 pub pair-in-spec : {M : Type 1} → statement M
 pair-in-spec =

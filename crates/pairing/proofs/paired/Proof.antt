@@ -4,8 +4,8 @@ use borrow.Author.Needs.{needs}
 use Rattle.pairing.proofs.paired.Statement.{statement}
 use Rattle.pairing.proofs.paired.Tie as tie
 
-solve-in-requires : tie.Need-solve-in-requires
-solve-in-requires c κs = search needs
+solve-requires : tie.Need-solve-requires
+solve-requires c κs = search needs
 
 rows-of-requires : tie.Need-rows-of-requires
 rows-of-requires c κs = search needs
@@ -16,21 +16,21 @@ cols-of-requires c κs = search needs
 sum-distances-requires : tie.Need-sum-distances-requires
 sum-distances-requires c κs =
     let v = c .before .before .before .before .before .before in
-    let s = v .before .before .before in
+    let s = v .before .before in
     let a = s .args in
     let p = s .pre in
-    (few (a .m .now) (a .h) (a .w) (a .max-cost) (v .solve-in .result) (v .solve-in .ensures .0) (p .0) (p .1) (p .2) (p .3), in-matrix (a .m .now) (a .h) (a .w) (a .max-cost) (v .solve-in .result) (v .solve-in .ensures .0) (p .0) (p .1) (p .2) (p .3) _ _ (c .before .before .before .rows-of .ensures) (c .before .before .cols-of .ensures))
+    (few (a .m .now) (a .h) (a .w) (a .max-cost) (v .solve .result) (v .solve .ensures) (p .0) (p .1) (p .2) (p .3), in-matrix (a .m .now) (a .h) (a .w) (a .max-cost) (v .solve .result) (v .solve .ensures) (p .0) (p .1) (p .2) (p .3) _ _ (c .before .before .before .rows-of .ensures) (c .before .before .cols-of .ensures))
 
 returns : tie.Need-returns
 returns c =
     let b = c .before in
     let v = b .before .before .before .before .before .before in
-    let s = v .before .before .before in
+    let s = v .before .before in
     let a = s .args in
     let p = s .pre in
-    (made (a .m .now) (a .h) (a .w) (a .max-cost) (v .solve-in .result) (v .solve-in .ensures .0) (p .0) (p .1) (p .2) (p .3) _ _ (b .before .before .before .rows-of .ensures) (b .before .before .cols-of .ensures) (a .total) (c .sum-distances .result) (c .sum-distances .ensures), v .solve-in .ensures .1)
+    made (a .m .now) (a .h) (a .w) (a .max-cost) (v .solve .result) (v .solve .ensures) (p .0) (p .1) (p .2) (p .3) _ _ (b .before .before .before .rows-of .ensures) (b .before .before .cols-of .ensures) (a .total) (c .sum-distances .result) (c .sum-distances .ensures)
 
 pub paired-spec : {M : Type 1} → statement M
 paired-spec =
     tie.close
-    (tie.spec solve-in-requires rows-of-requires cols-of-requires sum-distances-requires returns)
+    (tie.spec solve-requires rows-of-requires cols-of-requires sum-distances-requires returns)
