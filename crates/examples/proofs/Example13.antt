@@ -40,7 +40,7 @@ use Rattle.examples.proofs.Steps.{full-by}
 
 -- ---- the search of one cell, 0.0: the first pass pairs it
 paired-state : State
-paired-state = state (replicate 4096 zero64) (0 ∷ replicate 63 64) (0 ∷ replicate 63 64)
+paired-state = state (replicate 64 zero64) (0 ∷ replicate 63 64) (0 ∷ replicate 63 64)
 
 start : startOf (zero64 ∷ []) 1 1 ≡ paired-state
 unfolding paired-state startOf over zeroAt isFinite isZero absOf lt sub

@@ -25,7 +25,7 @@ matrix = zero64 ∷ two 1 2 ∷ two 1 0 ∷ two 9 0 ∷ []
 
 -- after step B (0, 0), (0, 4)
 square : List Float
-square = set (replicate 4096 zero64) 65 (two 1 2)
+square = set (replicate 128 zero64) 65 (two 1 2)
 
 s0 : State
 unfolding square

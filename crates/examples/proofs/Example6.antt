@@ -28,7 +28,7 @@ matrix = two 1 0 ∷ two 1 1 ∷ two 3 0 ∷ two 1 1 ∷ two 1 2 ∷ two 3 1 ∷
 
 -- ---- A to C: the square (0, 0, 0), (0, 1, 2), (0, 2, 4), and the pair (0, 0)
 square0 : List Float
-square0 = set (set (set (set (replicate 4096 zero64) 65 (two 1 0)) 66 (two 1 1)) 129 (two 1 1)) 130 (two 1 2)
+square0 = set (set (set (set (replicate 192 zero64) 65 (two 1 0)) 66 (two 1 1)) 129 (two 1 1)) 130 (two 1 2)
 
 square-is : squareOf matrix 3 3 ≡ square0
 unfolding matrix square0 squareOf over line isFinite lt sub
@@ -98,7 +98,7 @@ use1 = refl
 
 -- ---- G: the square (1, 0, 0), (0, 0, 1), (0, 1, 3)
 square1 : List Float
-square1 = set (set (set (set (replicate 4096 zero64) 0 (two 1 0)) 66 (two 1 0)) 129 (two 1 0)) 130 (two 3 0)
+square1 = set (set (set (set (replicate 192 zero64) 0 (two 1 0)) 66 (two 1 0)) 129 (two 1 0)) 130 (two 3 0)
 
 moved1 : shiftOf 3 R1 C1 (two 1 0) square0 ≡ square1
 unfolding square0 square1 over line shiftedOf add sub

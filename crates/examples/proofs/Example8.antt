@@ -26,7 +26,7 @@ abbrev matrix : List Float
 matrix = nan ∷ []
 
 s : State
-s = state (set (replicate 4096 zero64) 0 nan) (replicate 64 64) (replicate 64 64)
+s = state (set (replicate 64 zero64) 0 nan) (replicate 64 64) (replicate 64 64)
 
 start : startOf matrix 1 1 ≡ s
 unfolding s startOf over zeroAt isFinite isZero absOf lt

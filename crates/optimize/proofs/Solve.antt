@@ -1,9 +1,12 @@
 -- Steps A to G in a row: what the code's calls hand on, and that they lead to one end only. Assumes nothing.
-use Prim.Native.Nat.{ℕ, _≤_, _-_, max}
+use Prim.Native.Nat.{ℕ, _+_, _-_, _≤_, max}
 use mathlib.Core.Path.{_≡_, sym, ap, _∙_, subst}
 use mathlib.Core.List.{List}
 use native.Mathlib.Omega.{arith}
+use lib.ListN.{length, take, replicate, length-replicate, replicate-append-replicate}
+use lib.Seq.{take-at}
 use lib.Ieee.{Float}
+use Rattle.floats.specs.Float.{zero64}
 use Rattle.paths.specs.State.{State, state, Ok}
 use Rattle.start.specs.Steps.{pairsOf, noPairs, padded, rowsLowered, colsLowered, pairRows, squareOf, startOf}
 use Rattle.start.proofs.StartOk.{start-ok}
@@ -13,16 +16,24 @@ use Rattle.search.proofs.Bounds.{run-ok, run-bounded}
 use Rattle.search.proofs.Exists.{run-exists}
 use Rattle.optimize.specs.Answer.{Solved}
 
+-- ---- the square: the first places of an array of zeros
+pub zeros-part : (k m : ℕ) → k ≤ m → take k (replicate m zero64) ≡ replicate k zero64
+zeros-part k m h =
+    let e : m ≡ k + (m - k) = omega arith in
+    ap (λ (x : ℕ). take k (replicate x zero64)) e ∙ ap (take k) (sym (replicate-append-replicate k (m - k) zero64))
+    ∙ take-at (replicate k zero64) (replicate (m - k) zero64) k (length-replicate k zero64)
+
 -- ---- the code's calls: n the larger side, c₁ c₂ c₃ the square after A, B's rows and B's columns
 module _ (m : List Float) (h w n : ℕ) (hh : h ≤ 64) (hw : w ≤ 64) (ne : n ≡ max h w) (c₁ c₂ c₃ : List Float) (e₁ : c₁ ≡ padded m h w) (e₂ : c₂ ≡ rowsLowered n n c₁) (e₃ : c₃ ≡ colsLowered n n c₂)
-    (rows cols : List ℕ) (e₄ : pairsOf rows cols ≡ pairRows c₃ n n noPairs) where
+    (rows cols rows₀ : List ℕ) (none : rows₀ ≡ replicate 64 64) (e₄ : pairsOf rows cols ≡ pairRows c₃ n n (pairsOf rows₀ (replicate 64 64))) where
   square-is : c₃ ≡ squareOf m h w
   unfolding squareOf
   square-is = e₃ ∙ ap (λ (c : List Float). colsLowered n n c) (e₂ ∙ ap (λ (c : List Float). rowsLowered n n c) e₁)
       ∙ ap (λ (k : ℕ). colsLowered k k (rowsLowered k k (padded m h w))) ne
 
   pairs-is : pairsOf rows cols ≡ pairRows (squareOf m h w) (max h w) (max h w) noPairs
-  pairs-is = e₄ ∙ ap (λ (c : List Float). pairRows c n n noPairs) square-is ∙ ap (λ (k : ℕ). pairRows (squareOf m h w) k k noPairs) ne
+  pairs-is = e₄ ∙ ap (λ (t : List ℕ). pairRows c₃ n n (pairsOf t (replicate 64 64))) none
+      ∙ ap (λ (c : List Float). pairRows c n n noPairs) square-is ∙ ap (λ (k : ℕ). pairRows (squareOf m h w) k k noPairs) ne
 
   start-is : state c₃ rows cols ≡ startOf m h w
   unfolding startOf

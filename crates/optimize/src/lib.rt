@@ -1,9 +1,11 @@
 // The assignment search over a matrix of costs, and what of its pairs passes max_cost. From internal/scipy/optimize.rs.
 // A matrix is one run, row after row; lists stand in 64 places with a count of those used, zeros behind them.
+use search::Counts;
 ghost use mathlib.Core.Path.{_≡_};
 ghost use mathlib.Core.Bool.{false};
-ghost use Prim.Native.Nat.{_+_, _*_, _≤_};
+ghost use Prim.Native.Nat.{_+_, _*_, _≤_, max};
 ghost use lib.ListN.{length, replicate};
+ghost use Rattle.floats.specs.Float.{zero64};
 ghost use Rattle.optimize.specs.Answer.{assignmentNo, Solved, passesOf, resultOf, emptyOf, rowsAlone, Answered};
 ghost use Rattle.optimize.specs.Inner.{Listed};
 
@@ -20,13 +22,6 @@ pub struct AssignmentResult {
     pub num_unmatched_rows: usize,
     pub unmatched_cols: [usize; 64],
     pub num_unmatched_cols: usize,
-    pub corrections: usize,
-    pub paths: usize,
-}
-
-// Each row's column, which is no real one from the number of columns on, and the counts of steps G and E.
-pub struct Matching {
-    pub row_match: [usize; 64],
     pub corrections: usize,
     pub paths: usize,
 }
@@ -49,28 +44,58 @@ fn assignment_no(len: usize, rows: usize, cols: usize) -> u32
     if len == rows * cols { 0 } else { 3 }
 }
 
-// Steps A to G.
-fn hungarian_algorithm(cost: &[f64], rows: usize, cols: usize) -> Matching
-    requires { ⌜ (rows ≤ 64) × (cols ≤ 64) × (length (now cost) ≡ rows * cols) ⌝ }
-    ensures { λ r. ⌜ Solved (now (cost .entry)) rows cols (r .corrections) (r .paths) (r .«row_match») ⌝ }
+fn larger_side(rows: usize, cols: usize) -> usize
+    ensures { λ r. ⌜ r ≡ max rows cols ⌝ }
 {
-    let mut n = rows;
     if rows < cols {
-        n = cols;
+        return cols;
     }
-    let mut c = [0.0f64; 4096];
-    let mut row_match = [64usize; 64];
+    rows
+}
+
+// Steps A to G, in a lent square of side n that holds zeros.
+fn steps(
+    cost: &[f64],
+    rows: usize,
+    cols: usize,
+    n: usize,
+    c: &mut [f64],
+    row_match: &mut [usize; 64],
+) -> Counts
+    requires { ⌜ (rows ≤ 64) × (cols ≤ 64) × (length (now cost) ≡ rows * cols) × (n ≡ max rows cols) × (now c ≡ replicate (n * 64) zero64) × (now «row_match» ≡ replicate 64 64) ⌝ }
+    ensures { λ r. ⌜ Solved (now (cost .entry)) rows cols (r .corrections) (r .paths) (now («row_match» .exit)) ⌝ }
+{
     let mut col_match = [64usize; 64];
-    start::pad(cost, rows, cols, &mut c);
-    start::lower_rows(&mut c, n);
-    start::lower_cols(&mut c, n);
-    start::first_pass(&c, n, &mut row_match, &mut col_match);
-    let counts = search::search(&mut c, n, &mut row_match, &mut col_match);
-    Matching {
-        row_match,
-        corrections: counts.corrections,
-        paths: counts.paths,
+    start::pad(cost, rows, cols, c);
+    start::lower_rows(c, n);
+    start::lower_cols(c, n);
+    start::first_pass(c, n, row_match, &mut col_match);
+    search::search(c, n, row_match, &mut col_match)
+}
+
+// Steps A to G: each row's column, which is no real one from the number of columns on, and the counts of steps G and E.
+// (Three sizes of square: to clear 4,096 places costs more than all else of a small matrix.)
+fn hungarian_algorithm(
+    cost: &[f64],
+    rows: usize,
+    cols: usize,
+    row_match: &mut [usize; 64],
+) -> Counts
+    requires { ⌜ (rows ≤ 64) × (cols ≤ 64) × (length (now cost) ≡ rows * cols) × (now «row_match» ≡ replicate 64 64) ⌝ }
+    ensures { λ r. ⌜ Solved (now (cost .entry)) rows cols (r .corrections) (r .paths) (now («row_match» .exit)) ⌝ }
+{
+    let n = larger_side(rows, cols);
+    let places = n * 64;
+    if n <= 8 {
+        let mut small = [0.0f64; 512];
+        return steps(cost, rows, cols, n, &mut small[..places], row_match);
     }
+    if n <= 32 {
+        let mut middle = [0.0f64; 2048];
+        return steps(cost, rows, cols, n, &mut middle[..places], row_match);
+    }
+    let mut large = [0.0f64; 4096];
+    steps(cost, rows, cols, n, &mut large[..places], row_match)
 }
 
 // Whether a row and a column are a real pair whose cost, as given, is at most max_cost.
@@ -125,17 +150,17 @@ fn keep_pairs(
 }
 
 // What of a matching passes max_cost, and what is left.
-pub fn filtered(
+fn filtered(
     cost: &[f64],
     rows: usize,
     cols: usize,
     max_cost: f64,
-    found: Matching,
+    row_match: &[usize; 64],
+    found: Counts,
 ) -> AssignmentResult
     requires { ⌜ (rows ≤ 64) × (cols ≤ 64) × (length (now cost) ≡ rows * cols) ⌝ }
-    ensures { λ r. ⌜ r ≡ resultOf (now (cost .entry)) rows cols «max_cost» (found .«row_match») (found .corrections) (found .paths) ⌝ }
+    ensures { λ r. ⌜ r ≡ resultOf (now (cost .entry)) rows cols «max_cost» (now («row_match» .entry)) (found .corrections) (found .paths) ⌝ }
 {
-    let row_match = found.row_match;
     let mut matched_rows = [false; 64];
     let mut matched_cols = [false; 64];
     let kept = keep_pairs(
@@ -143,7 +168,7 @@ pub fn filtered(
         rows,
         cols,
         max_cost,
-        &row_match,
+        row_match,
         &mut matched_rows,
         &mut matched_cols,
     );
@@ -228,6 +253,7 @@ pub fn linear_sum_assignment(
     if cols == 0 {
         return rows_alone(rows);
     }
-    let found = hungarian_algorithm(cost, rows, cols);
-    filtered(cost, rows, cols, max_cost, found)
+    let mut row_match = [64usize; 64];
+    let found = hungarian_algorithm(cost, rows, cols, &mut row_match);
+    filtered(cost, rows, cols, max_cost, &row_match, found)
 }

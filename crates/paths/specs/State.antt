@@ -1,6 +1,6 @@
 -- What the search has in hand between its steps: a square of side n, and each row's and each column's partner or none.
 -- The encoding adds: the square lies as crate square's specs/Square says, a table has 64 places, and a partner of n or more is none. Definitions only.
-use Prim.Native.Nat.{ℕ, _<_, _≤_}
+use Prim.Native.Nat.{ℕ, _*_, _<_, _≤_}
 use mathlib.Core.Path.{_≡_}
 use mathlib.Core.Bool.{Bool}
 use mathlib.Core.List.{List}
@@ -34,4 +34,4 @@ pub record Tables (n : ℕ) (rows cols : List ℕ) : Type 0 where
 -- what every step keeps
 pub record Ok (n : ℕ) (s : State) : Type 0 where
   pub tables : Tables n (s .rows) (s .cols)
-  pub len : length (s .square) ≡ 4096
+  pub len : length (s .square) ≡ n * 64

@@ -1,6 +1,7 @@
 // Step E of the search: a path from a free row to a free column, and its flip.
 // The square lies at stride 64; in the tables n or more is no partner; 64 is no place and no column.
 ghost use mathlib.Core.Path.{_≡_};
+ghost use Prim.Native.Nat.{_*_, _≤_};
 ghost use lib.ListN.{length, getD, replicate};
 ghost use Rattle.paths.specs.State.{state};
 ghost use Rattle.paths.specs.Path.{bfsOf, Flips, Path};
@@ -14,14 +15,14 @@ pub struct Found {
 
 // Step E from one free row: breadth first, the first free column met ends it.
 fn bfs(
-    c: &[f64; 4096],
+    c: &[f64],
     n: usize,
     cols: &[usize; 64],
     start: usize,
     from: &mut [usize; 64],
     queue: &mut [usize; 64],
 ) -> Found
-    requires { ⌜ Begins n (now cols) start × (now from ≡ replicate 64 64) × (length (now queue) ≡ 64) ⌝ }
+    requires { ⌜ Begins n (now cols) start × (now from ≡ replicate 64 64) × (length (now queue) ≡ 64) × (n * 64 ≤ length (now c)) ⌝ }
     ensures { λ r. ⌜ Holds (bfsOf (now (c .entry)) n (now (cols .entry)) start) (now (from .exit)) (now (queue .exit)) (r .hit) (r .tail) ⌝ }
 {
     queue[0] = start;
@@ -79,14 +80,8 @@ fn flip(
 }
 
 // Step E from the first free row that has a path: that path flipped.
-pub fn augment(
-    c: &[f64; 4096],
-    n: usize,
-    rows: &mut [usize; 64],
-    cols: &mut [usize; 64],
-    start: usize,
-)
-    requires { ⌜ Leads n (now c) (now rows) (now cols) start ⌝ }
+pub fn augment(c: &[f64], n: usize, rows: &mut [usize; 64], cols: &mut [usize; 64], start: usize)
+    requires { ⌜ Leads n (now c) (now rows) (now cols) start × (n * 64 ≤ length (now c)) ⌝ }
     ensures { λ r. ⌜ Path n (state (now (c .entry)) (now (rows .entry)) (now (cols .entry))) (state (now (c .entry)) (now (rows .exit)) (now (cols .exit))) ⌝ }
 {
     let mut from = [64usize; 64];

@@ -1,5 +1,5 @@
 -- A correction keeps what was reached, and reaches one column more: the entry that attains the minimum becomes a zero. Assumes nothing.
-use Prim.Native.Nat.{ℕ, zero, suc, _<_, _≤_}
+use Prim.Native.Nat.{ℕ, zero, suc, _*_, _<_, _≤_}
 use mathlib.Core.Path.{_≡_, refl, sym, ap, _∙_, subst}
 use mathlib.Core.Bool.{Bool, true, false, true≢false, cond, _&&_}
 use mathlib.Core.List.{List}
@@ -67,7 +67,7 @@ shifted-out : (m x : Float) (a b : Bool) → a ≡ true → b ≡ false → shif
 unfolding shiftedOf
 shifted-out m x a b p q = rw (p, q)
 
-module _ (n : ℕ) (n64 : n ≤ 64) (c : List Float) (len : length c ≡ 4096) (rows cols : List ℕ) (R C : List Bool) (m : Float) where
+module _ (n : ℕ) (n64 : n ≤ 64) (c : List Float) (len : length c ≡ n * 64) (rows cols : List ℕ) (R C : List Bool) (m : Float) where
   abbrev old : State
   old = record { square = c; rows = rows; cols = cols }
 
@@ -76,7 +76,7 @@ module _ (n : ℕ) (n64 : n ≤ 64) (c : List Float) (len : length c ≡ 4096) (
 
   -- a correction's cells
   pub cell : (i j : ℕ) → i < n → j < n → at (shiftOf n R C m c) i j ≡ shiftedOf (on R i) (on C j) m (at c i j)
-  cell i j hi hj = over-at n (correction R C m) n64 n c n64 len i j hi hj
+  cell i j hi hj = over-at n (correction R C m) n64 n c (omega arith) i j hi hj
 
   zero-kept : (i j : ℕ) → i < n → j < n → on R i ≡ true → on C j ≡ true → zeroAt c i j ≡ true → zeroAt (shiftOf n R C m c) i j ≡ true
   unfolding zeroAt

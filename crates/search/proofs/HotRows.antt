@@ -26,7 +26,7 @@ columns-of wanted C n columns used n64 v = record {
   rising = picked-rising wanted C n columns used v;
 }
 
-module _ (n : ℕ) (n64 : n ≤ 64) (R C : List Bool) (m : Float) (c₀ : List Float) (len₀ : length c₀ ≡ 4096) where
+module _ (n : ℕ) (n64 : n ≤ 64) (R C : List Bool) (m : Float) (c₀ : List Float) (fits : n * 64 ≤ length c₀) where
   -- a zero of row i, column j after the correction
   abbrev New : ℕ → ℕ → Type 0
   New i j = isZero (correction R C m i j (at c₀ i j)) ≡ true
@@ -64,7 +64,7 @@ module _ (n : ℕ) (n64 : n ≤ 64) (R C : List Bool) (m : Float) (c₀ : List F
         (λ (t : b ≡ true). t)
         (λ (f : b ≡ false).
         let w = picked-place false C n columns used p j hj (not-of-false q) in
-        let here : at c k j ≡ correction R C m k j (at c₀ k j) = ap (λ (x : List Float). at x k j) e ∙ over-at n (correction R C m) n64 (k + 1) c₀ (omega arith) len₀ k j (omega arith) hj in
+        let here : at c k j ≡ correction R C m k j (at c₀ k j) = ap (λ (x : List Float). at x k j) e ∙ over-at n (correction R C m) n64 (k + 1) c₀ (omega arith) k j (omega arith) hj in
         not-both (isZero (correction R C m k j (at c₀ k j))) z
         (ap isZero (sym here) ∙ subst (λ (x : ℕ). isZero (getD c (k * 64 + x) nan) ≡ false) (w .2) (none f (w .0) (w .1))))
         (dec b))
@@ -77,5 +77,5 @@ module _ (n : ℕ) (n64 : n ≤ 64) (R C : List Bool) (m : Float) (c₀ : List F
   hot-end F k c le e v = record {
     only = λ i l. v .only i (omega arith);
     all = λ i j hi hj r q z. v .all i (omega arith) j hj r q
-        (ap isZero (sym (over-at n (correction R C m) n64 n c₀ n64 len₀ i j hi hj)) ∙ ap (λ (x : List Float). isZero (at x i j)) (sym e) ∙ z);
+        (ap isZero (sym (over-at n (correction R C m) n64 n c₀ fits i j hi hj)) ∙ ap (λ (x : List Float). isZero (at x i j)) (sym e) ∙ z);
   }

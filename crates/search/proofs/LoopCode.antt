@@ -1,5 +1,5 @@
 -- The minimum and the correction over listed columns are those over all columns. Assumes nothing.
-use Prim.Native.Nat.{ℕ, zero, suc, _+_, _<_}
+use Prim.Native.Nat.{ℕ, zero, suc, _+_, _*_, _<_, _≤_}
 use mathlib.Core.Path.{_≡_, refl, sym, ap, _∙_}
 use mathlib.Core.Bool.{Bool, true, false, not, cond}
 use mathlib.Core.List.{List, [], _∷_}
@@ -73,10 +73,10 @@ module _ (i n : ℕ) (wanted : Bool) (C : List Bool) (columns : List ℕ) (used 
   line-picked c = picked-loop wanted C n columns used v (λ j c. set c (inRow i j) (g (getD c (inRow i j) nan))) c ∙ loop-same n _ _ c (λ j _ x. one j x)
 
 -- none of the first listed entries is a zero, and the next is none either
-pub zeros-more : (i : ℕ) (columns : List ℕ) (used : ℕ) → i < 64 → Columns columns used → (c : List Float) → length c ≡ 4096 → (t : ℕ) → t < used → (x : Float)
+pub zeros-more : (i : ℕ) (columns : List ℕ) (used : ℕ) → Columns columns used → (c : List Float) → i * 64 + 64 ≤ length c → (t : ℕ) → t < used → (x : Float)
     → ((s : ℕ) → s < t → isZero (getD c (listed i columns s) nan) ≡ false) → isZero x ≡ false
     → (s : ℕ) → s < t + 1 → isZero (getD (set c (listed i columns t) x) (listed i columns s) nan) ≡ false
-zeros-more i columns used li v c len t lt x old z s l = below-more t (λ s. isZero (getD (set c (listed i columns t) x) (listed i columns s) nan) ≡ false)
+zeros-more i columns used v c fits t lt x old z s l = below-more t (λ s. isZero (getD (set c (listed i columns t) x) (listed i columns s) nan) ≡ false)
     (λ s ls. ap isZero (getD-set-other c (listed i columns t) (listed i columns s) x nan (λ e. omega (arith, v .rising s t ls lt))) ∙ old s ls)
     (ap isZero (getD-set-same c (listed i columns t) x nan (omega (arith, v .inside t lt))) ∙ z)
     s (omega arith)

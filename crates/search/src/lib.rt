@@ -1,7 +1,7 @@
 // Steps D to G of the search. The square lies at stride 64; in the tables n or more is no partner; sets of rows and columns are marks.
 ghost use mathlib.Core.Path.{_≡_};
 ghost use mathlib.Core.Bool.{false};
-ghost use Prim.Native.Nat.{ℕ, _≤_, _<_};
+ghost use Prim.Native.Nat.{ℕ, _+_, _*_, _≤_, _<_};
 ghost use mathlib.Core.List.{List};
 ghost use lib.ListN.{length, getD};
 ghost use lib.Ieee.{nan, binary64, add, sub};
@@ -32,14 +32,14 @@ fn free_rows(rows: &[usize; 64], n: usize, free: &mut [bool; 64]) -> bool
 
 // The row routine of step F: marks a row, and every column that a zero leads to. True where a free column is met: it stops there.
 fn reach_row(
-    c: &[f64; 4096],
+    c: &[f64],
     n: usize,
     cols: &[usize; 64],
     row: usize,
     rs: &mut [bool; 64],
     cs: &mut [bool; 64],
 ) -> bool
-    requires { ⌜ (n ≤ 64) × (row < n) × (length (now rs) ≡ 64) × (length (now cs) ≡ 64) ⌝ }
+    requires { ⌜ (n ≤ 64) × (row < n) × (length (now rs) ≡ 64) × (length (now cs) ≡ 64) × (n * 64 ≤ length (now c)) ⌝ }
     ensures { λ r. ⌜ RowDone r (now (c .entry)) n (now (cols .entry)) row (now (rs .entry)) (now (cs .entry)) (now (rs .exit)) (now (cs .exit)) ⌝ }
 {
     rs[row] = true;
@@ -59,14 +59,14 @@ fn reach_row(
 
 // The column routine: marks a column that is not marked yet, and goes on to its partner row.
 fn reach_col(
-    c: &[f64; 4096],
+    c: &[f64],
     n: usize,
     cols: &[usize; 64],
     col: usize,
     rs: &mut [bool; 64],
     cs: &mut [bool; 64],
 ) -> bool
-    requires { ⌜ (n ≤ 64) × (col < n) × (length (now rs) ≡ 64) × (length (now cs) ≡ 64) × (on (now cs) col ≡ false) ⌝ }
+    requires { ⌜ (n ≤ 64) × (col < n) × (length (now rs) ≡ 64) × (length (now cs) ≡ 64) × (on (now cs) col ≡ false) × (n * 64 ≤ length (now c)) ⌝ }
     ensures { λ r. ⌜ ColDone r (now (c .entry)) n (now (cols .entry)) col (now (rs .entry)) (now (cs .entry)) (now (rs .exit)) (now (cs .exit)) ⌝ }
 {
     cs[col] = true;
@@ -82,14 +82,14 @@ fn reach_col(
 
 // Goes through the rows marked in `look`, and gives the one at which a free column is met, or n.
 fn spread(
-    c: &[f64; 4096],
+    c: &[f64],
     n: usize,
     cols: &[usize; 64],
     look: &[bool; 64],
     rs: &mut [bool; 64],
     cs: &mut [bool; 64],
 ) -> usize
-    requires { ⌜ (n ≤ 64) × (length (now rs) ≡ 64) × (length (now cs) ≡ 64) ⌝ }
+    requires { ⌜ (n ≤ 64) × (length (now rs) ≡ 64) × (length (now cs) ≡ 64) × (n * 64 ≤ length (now c)) ⌝ }
     ensures { λ r. ⌜ ((r < n → Met r (now (c .entry)) n (now (cols .entry)) (now (look .entry)) (now (rs .entry)) (now (cs .entry)) (now (rs .exit)) (now (cs .exit)))
         × (n ≤ r → Looked n (now (c .entry)) n (now (cols .entry)) (now (look .entry)) (now (rs .entry)) (now (cs .entry)) (now (rs .exit)) (now (cs .exit)))) ⌝ }
 {
@@ -107,14 +107,14 @@ fn spread(
 
 // The first listed column from place `from` on where a row's entry is smaller than m, or `used`.
 fn next_below(
-    c: &[f64; 4096],
+    c: &[f64],
     row: usize,
     columns: &[usize; 64],
     used: usize,
     from: usize,
     m: f64,
 ) -> usize
-    requires { ⌜ (row < 64) × Columns (now columns) used × (from ≤ used) ⌝ }
+    requires { ⌜ (row < 64) × Columns (now columns) used × (from ≤ used) × (row * 64 + 64 ≤ length (now c)) ⌝ }
     ensures { λ r. ⌜ Below (now (c .entry)) row (now (columns .entry)) used from m r ⌝ }
 {
     let mut t = from;
@@ -129,8 +129,8 @@ fn next_below(
 
 // The smaller of m and a row's entries in the listed columns, NaN passed over. Few are smaller than all before them: it goes from one of
 // these to the next, and tests the others only.
-fn least_row(c: &[f64; 4096], row: usize, columns: &[usize; 64], used: usize, least: f64) -> f64
-    requires { ⌜ (row < 64) × Columns (now columns) used ⌝ }
+fn least_row(c: &[f64], row: usize, columns: &[usize; 64], used: usize, least: f64) -> f64
+    requires { ⌜ (row < 64) × Columns (now columns) used × (row * 64 + 64 ≤ length (now c)) ⌝ }
     ensures { λ r. ⌜ r ≡ leastListed (now (c .entry)) row (now (columns .entry)) used least ⌝ }
 {
     let mut m = least;
@@ -143,8 +143,8 @@ fn least_row(c: &[f64; 4096], row: usize, columns: &[usize; 64], used: usize, le
 }
 
 // The minimum over the marked rows and the columns that are not marked.
-fn least_over(c: &[f64; 4096], n: usize, rs: &[bool; 64], cs: &[bool; 64]) -> f64
-    requires { ⌜ n ≤ 64 ⌝ }
+fn least_over(c: &[f64], n: usize, rs: &[bool; 64], cs: &[bool; 64]) -> f64
+    requires { ⌜ (n ≤ 64) × (n * 64 ≤ length (now c)) ⌝ }
     ensures { λ r. ⌜ r ≡ leastOver (now (c .entry)) n (now (rs .entry)) (now (cs .entry)) ⌝ }
 {
     let outside = square::pick(cs, n, false);
@@ -172,8 +172,8 @@ fn useful(m: f64) -> bool
 }
 
 // A row's listed entries less m, and whether one of them is a zero then.
-fn take_off(c: &mut [f64; 4096], row: usize, columns: &[usize; 64], used: usize, m: f64) -> bool
-    requires { ⌜ (row < 64) × Columns (now columns) used × (length (now c) ≡ 4096) ⌝ }
+fn take_off(c: &mut [f64], row: usize, columns: &[usize; 64], used: usize, m: f64) -> bool
+    requires { ⌜ (row < 64) × Columns (now columns) used × (row * 64 + 64 ≤ length (now c)) ⌝ }
     ensures taken { λ r. ⌜ now (c .exit) ≡ line (listed row (now (columns .entry))) used (λ _ x. sub binary64 x m) (now (c .entry)) ⌝ }
     ensures zeros { λ r. ⌜ (r ≡ false → (t : ℕ) → t < used → isZero (getD (now (c .exit)) (listed row (now (columns .entry)) t) nan) ≡ false) ⌝ }
 {
@@ -192,8 +192,8 @@ fn take_off(c: &mut [f64; 4096], row: usize, columns: &[usize; 64], used: usize,
 }
 
 // A row's listed entries and m.
-fn put_on(c: &mut [f64; 4096], row: usize, columns: &[usize; 64], used: usize, m: f64)
-    requires { ⌜ (row < 64) × Columns (now columns) used ⌝ }
+fn put_on(c: &mut [f64], row: usize, columns: &[usize; 64], used: usize, m: f64)
+    requires { ⌜ (row < 64) × Columns (now columns) used × (row * 64 + 64 ≤ length (now c)) ⌝ }
     ensures { λ r. ⌜ now (c .exit) ≡ line (listed row (now (columns .entry))) used (λ _ x. add binary64 x m) (now (c .entry)) ⌝ }
 {
     let mut t = 0usize;
@@ -205,15 +205,8 @@ fn put_on(c: &mut [f64; 4096], row: usize, columns: &[usize; 64], used: usize, m
 }
 
 // Step G: m is taken off in R outside C, and put on outside R in C. `hot` gets marks at the rows of R that have a new zero.
-fn shift(
-    c: &mut [f64; 4096],
-    n: usize,
-    rs: &[bool; 64],
-    cs: &[bool; 64],
-    m: f64,
-    hot: &mut [bool; 64],
-)
-    requires { ⌜ (n ≤ 64) × (length (now c) ≡ 4096) × (length (now hot) ≡ 64) ⌝ }
+fn shift(c: &mut [f64], n: usize, rs: &[bool; 64], cs: &[bool; 64], m: f64, hot: &mut [bool; 64])
+    requires { ⌜ (n ≤ 64) × (n * 64 ≤ length (now c)) × (length (now hot) ≡ 64) ⌝ }
     ensures shifted { λ r. ⌜ now (c .exit) ≡ shiftOf n (now (rs .entry)) (now (cs .entry)) m (now (c .entry)) ⌝ }
     ensures marked { λ r. ⌜ Hot n (now (rs .entry)) (now (cs .entry)) (now (c .exit)) (now (hot .exit)) ⌝ }
 {
@@ -243,7 +236,7 @@ pub struct Corrections {
 
 // Steps F and G, from step F's sets on: a correction keeps what was reached, so the sets only grow, until a free column is reached.
 fn correct(
-    c: &mut [f64; 4096],
+    c: &mut [f64],
     n: usize,
     cols: &[usize; 64],
     rs: &mut [bool; 64],
@@ -277,12 +270,7 @@ pub struct Counts {
 }
 
 // Steps D to G, with no cap.
-pub fn search(
-    c: &mut [f64; 4096],
-    n: usize,
-    rows: &mut [usize; 64],
-    cols: &mut [usize; 64],
-) -> Counts
+pub fn search(c: &mut [f64], n: usize, rows: &mut [usize; 64], cols: &mut [usize; 64]) -> Counts
     requires { ⌜ Ok n (state (now c) (now rows) (now cols)) ⌝ }
     ensures { λ r. ⌜ Run n (state (now (c .entry)) (now (rows .entry)) (now (cols .entry))) (r .corrections) (r .paths) (state (now (c .exit)) (now (rows .exit)) (now (cols .exit))) ⌝ }
 {

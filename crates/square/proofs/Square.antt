@@ -79,14 +79,14 @@ module _ (w : ℕ) (f : ℕ → ℕ → Float → Float) where
     over-other (suc k) c i j lj h =
         line-other (inRow k) (f k) w (over k w f c) (i * 64 + j) (λ t l e. h (omega arith) (omega arith)) ∙ over-other k c i j lj (λ l l'. h (omega arith) l')
 
-    pub over-at : (k : ℕ) (c : List Float) → k ≤ 64 → length c ≡ 4096 → (i j : ℕ) → i < k → j < w → at (over k w f c) i j ≡ f i j (at c i j)
+    pub over-at : (k : ℕ) (c : List Float) → k * 64 ≤ length c → (i j : ℕ) → i < k → j < w → at (over k w f c) i j ≡ f i j (at c i j)
     unfolding over
-    over-at zero c lk len i j li lj = absurd (not-suc-le-zero li)
-    over-at (suc k) c lk len i j li lj = ⊎-elim
+    over-at zero c fits i j li lj = absurd (not-suc-le-zero li)
+    over-at (suc k) c fits i j li lj = ⊎-elim
         (λ (e : i ≡ k). subst (λ (x : ℕ). at (over (suc k) w f c) x j ≡ f x j (at c x j)) (sym e)
         (line-at (inRow k) (f k) w (over k w f c) (λ a b _ _ q. omega arith) j lj (omega (arith, over-length k c))
         ∙ ap (f k j) (over-other k c k j (omega arith) (λ l _. omega arith))))
-        (λ (l : i < k). line-other (inRow k) (f k) w (over k w f c) (i * 64 + j) (λ t lt e. omega arith) ∙ over-at k c (omega arith) len i j l lj)
+        (λ (l : i < k). line-other (inRow k) (f k) w (over k w f c) (i * 64 + j) (λ t lt e. omega arith) ∙ over-at k c (omega arith) i j l lj)
         (last-or-before li)
 
 -- ---- the running minimum

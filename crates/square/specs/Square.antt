@@ -1,4 +1,4 @@
--- A square of side n, at most 64, lies in a run of 4,096 floats: row i, column j stands at place 64 i + j. Definitions only.
+-- A square of side n, at most 64, lies in a run of 64 n floats: row i, column j stands at place 64 i + j. Definitions only.
 use Prim.Native.Nat.{ℕ, _+_, _*_}
 use mathlib.Core.Bool.{Bool, cond}
 use mathlib.Core.List.{List}

@@ -87,24 +87,24 @@ no-pairs-fine n n64 = record {
 }
 
 -- ---- A and B: the square keeps its length
-abbrev Long : List Float → Type 0
-Long c = length c ≡ 4096
+abbrev Long : ℕ → List Float → Type 0
+Long n c = length c ≡ n * 64
 
-cond-long : (b : Bool) (x y : List Float) → Long x → Long y → Long (cond b x y)
-cond-long true x y p q = p
-cond-long false x y p q = q
+cond-long : (n : ℕ) (b : Bool) (x y : List Float) → Long n x → Long n y → Long n (cond b x y)
+cond-long n true x y p q = p
+cond-long n false x y p q = q
 
-lower-long : (p : ℕ → ℕ) (n : ℕ) (c : List Float) → Long c → Long (lowered p n c)
+lower-long : (p : ℕ → ℕ) (n : ℕ) (c : List Float) → Long n c → Long n (lowered p n c)
 unfolding lowered
-lower-long p n c h = cond-long (isFinite (leastAlong p n c)) (lessBy p n (leastAlong p n c) c) c
+lower-long p n c h = cond-long n (isFinite (leastAlong p n c)) (lessBy p n (leastAlong p n c) c) c
     (line-length p (λ _ x. sub binary64 x (leastAlong p n c)) n c ∙ h) h
 
-pub square-long : (m : List Float) (h w : ℕ) → length (squareOf m h w) ≡ 4096
+pub square-long : (m : List Float) (h w : ℕ) → length (squareOf m h w) ≡ max h w * 64
 unfolding squareOf rowsLowered colsLowered padded
 square-long m h w =
-    loop-keeps Long (max h w) (λ j. lowered (along j 64) (max h w)) (λ j _ x p. lower-long (along j 64) (max h w) x p) _
-    (loop-keeps Long (max h w) (λ i. lowered (along (i * 64) 1) (max h w)) (λ i _ x p. lower-long (along (i * 64) 1) (max h w) x p) _
-    (over-length w (λ i j _. entry m w i j) h (replicate 4096 zero64) ∙ length-replicate 4096 zero64))
+    loop-keeps (Long (max h w)) (max h w) (λ j. lowered (along j 64) (max h w)) (λ j _ x p. lower-long (along j 64) (max h w) x p) _
+    (loop-keeps (Long (max h w)) (max h w) (λ i. lowered (along (i * 64) 1) (max h w)) (λ i _ x p. lower-long (along (i * 64) 1) (max h w) x p) _
+    (over-length w (λ i j _. entry m w i j) h (replicate (max h w * 64) zero64) ∙ length-replicate (max h w * 64) zero64))
 
 pub start-ok : (m : List Float) (h w : ℕ) → h ≤ 64 → w ≤ 64 → Ok (max h w) (startOf m h w)
 unfolding startOf

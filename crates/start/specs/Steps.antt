@@ -16,7 +16,7 @@ abbrev pub entry : List Float → ℕ → ℕ → ℕ → Float
 entry m w i j = getD m (i * w + j) nan
 
 unfoldable pub padded : List Float → ℕ → ℕ → List Float
-padded m h w = over h w (λ i j _. entry m w i j) (replicate 4096 zero64)
+padded m h w = over h w (λ i j _. entry m w i j) (replicate (max h w * 64) zero64)
 
 -- ---- B: "For each row, then for each column, the minimum (NaN passed over, start +infinity) is subtracted if finite"
 -- the minimum of the first k places of a line

@@ -1,7 +1,7 @@
 // Steps A to C of the search: the padded square, the minima taken off, the first pass.
 // The square lies at stride 64; in the tables n or more is no partner.
 ghost use mathlib.Core.Path.{_≡_};
-ghost use Prim.Native.Nat.{ℕ, _+_, _*_, _≤_, _<_};
+ghost use Prim.Native.Nat.{ℕ, _+_, _*_, _≤_, _<_, max};
 ghost use lib.ListN.{length, getD, replicate};
 ghost use lib.Ieee.{nan};
 ghost use Rattle.floats.specs.Float.{zero64};
@@ -9,8 +9,8 @@ ghost use Rattle.square.specs.Square.{inRow, along, line};
 ghost use Rattle.start.specs.Steps.{padded, leastAlong, lessBy, lowered, rowsLowered, colsLowered, pairRow, pairRows, pairsOf};
 
 // One row of step A.
-fn pad_row(src: &[f64], row: usize, c: &mut [f64; 4096])
-    requires { ⌜ (length (now src) ≤ 64) × (row < 64) ⌝ }
+fn pad_row(src: &[f64], row: usize, c: &mut [f64])
+    requires { ⌜ (length (now src) ≤ 64) × (row < 64) × (row * 64 + 64 ≤ length (now c)) ⌝ }
     ensures { λ r. ⌜ now (c .exit) ≡ line (inRow row) (length (now (src .entry))) (λ j _. getD (now (src .entry)) j nan) (now (c .entry)) ⌝ }
 {
     let mut j = 0usize;
@@ -21,8 +21,8 @@ fn pad_row(src: &[f64], row: usize, c: &mut [f64; 4096])
 }
 
 // Step A, into a square of zeros: each row is a part of the run.
-pub fn pad(m: &[f64], rows: usize, cols: usize, c: &mut [f64; 4096])
-    requires { ⌜ (rows ≤ 64) × (cols ≤ 64) × (length (now m) ≡ rows * cols) × (now c ≡ replicate 4096 zero64) ⌝ }
+pub fn pad(m: &[f64], rows: usize, cols: usize, c: &mut [f64])
+    requires { ⌜ (rows ≤ 64) × (cols ≤ 64) × (length (now m) ≡ rows * cols) × (now c ≡ replicate (max rows cols * 64) zero64) ⌝ }
     ensures { λ r. ⌜ now (c .exit) ≡ padded (now (m .entry)) rows cols ⌝ }
 {
     let mut row = 0usize;
@@ -36,8 +36,8 @@ pub fn pad(m: &[f64], rows: usize, cols: usize, c: &mut [f64; 4096])
 }
 
 // The minimum of a line, NaN passed over.
-fn least_along(c: &[f64; 4096], first: usize, step: usize, n: usize) -> f64
-    requires { ⌜ ((t : ℕ) → t < n → first + t * step < 4096) ⌝ }
+fn least_along(c: &[f64], first: usize, step: usize, n: usize) -> f64
+    requires { ⌜ ((t : ℕ) → t < n → first + t * step < length (now c)) ⌝ }
     ensures { λ r. ⌜ r ≡ leastAlong (along first step) n (now (c .entry)) ⌝ }
 {
     let mut m = 1.0 / 0.0;
@@ -53,8 +53,8 @@ fn least_along(c: &[f64; 4096], first: usize, step: usize, n: usize) -> f64
 }
 
 // A line less m.
-fn less_by(c: &mut [f64; 4096], first: usize, step: usize, n: usize, m: f64)
-    requires { ⌜ ((t : ℕ) → t < n → first + t * step < 4096) ⌝ }
+fn less_by(c: &mut [f64], first: usize, step: usize, n: usize, m: f64)
+    requires { ⌜ ((t : ℕ) → t < n → first + t * step < length (now c)) ⌝ }
     ensures { λ r. ⌜ now (c .exit) ≡ lessBy (along first step) n m (now (c .entry)) ⌝ }
 {
     let mut t = 0usize;
@@ -66,8 +66,8 @@ fn less_by(c: &mut [f64; 4096], first: usize, step: usize, n: usize, m: f64)
 }
 
 // A line less its minimum, if that is finite.
-fn lower(c: &mut [f64; 4096], first: usize, step: usize, n: usize)
-    requires { ⌜ ((t : ℕ) → t < n → first + t * step < 4096) ⌝ }
+fn lower(c: &mut [f64], first: usize, step: usize, n: usize)
+    requires { ⌜ ((t : ℕ) → t < n → first + t * step < length (now c)) ⌝ }
     ensures { λ r. ⌜ now (c .exit) ≡ lowered (along first step) n (now (c .entry)) ⌝ }
 {
     let m = least_along(c, first, step, n);
@@ -77,8 +77,8 @@ fn lower(c: &mut [f64; 4096], first: usize, step: usize, n: usize)
 }
 
 // Step B's rows.
-pub fn lower_rows(c: &mut [f64; 4096], n: usize)
-    requires { ⌜ n ≤ 64 ⌝ }
+pub fn lower_rows(c: &mut [f64], n: usize)
+    requires { ⌜ (n ≤ 64) × (n * 64 ≤ length (now c)) ⌝ }
     ensures { λ r. ⌜ now (c .exit) ≡ rowsLowered n n (now (c .entry)) ⌝ }
 {
     let mut row = 0usize;
@@ -89,8 +89,8 @@ pub fn lower_rows(c: &mut [f64; 4096], n: usize)
 }
 
 // Step B's columns.
-pub fn lower_cols(c: &mut [f64; 4096], n: usize)
-    requires { ⌜ n ≤ 64 ⌝ }
+pub fn lower_cols(c: &mut [f64], n: usize)
+    requires { ⌜ (n ≤ 64) × (n * 64 ≤ length (now c)) ⌝ }
     ensures { λ r. ⌜ now (c .exit) ≡ colsLowered n n (now (c .entry)) ⌝ }
 {
     let mut col = 0usize;
@@ -101,8 +101,8 @@ pub fn lower_cols(c: &mut [f64; 4096], n: usize)
 }
 
 // One row of step C.
-fn pair_row(c: &[f64; 4096], n: usize, row: usize, rows: &mut [usize; 64], cols: &mut [usize; 64])
-    requires { ⌜ (n ≤ 64) × (row < n) ⌝ }
+fn pair_row(c: &[f64], n: usize, row: usize, rows: &mut [usize; 64], cols: &mut [usize; 64])
+    requires { ⌜ (n ≤ 64) × (row < n) × (n * 64 ≤ length (now c)) ⌝ }
     ensures { λ r. ⌜ pairsOf (now (rows .exit)) (now (cols .exit)) ≡ pairRow (now (c .entry)) n row n (pairsOf (now (rows .entry)) (now (cols .entry))) ⌝ }
 {
     let mut col = 0usize;
@@ -120,8 +120,8 @@ fn pair_row(c: &[f64; 4096], n: usize, row: usize, rows: &mut [usize; 64], cols:
 }
 
 // Step C.
-pub fn first_pass(c: &[f64; 4096], n: usize, rows: &mut [usize; 64], cols: &mut [usize; 64])
-    requires { ⌜ n ≤ 64 ⌝ }
+pub fn first_pass(c: &[f64], n: usize, rows: &mut [usize; 64], cols: &mut [usize; 64])
+    requires { ⌜ (n ≤ 64) × (n * 64 ≤ length (now c)) ⌝ }
     ensures { λ r. ⌜ pairsOf (now (rows .exit)) (now (cols .exit)) ≡ pairRows (now (c .entry)) n n (pairsOf (now (rows .entry)) (now (cols .entry))) ⌝ }
 {
     let mut row = 0usize;

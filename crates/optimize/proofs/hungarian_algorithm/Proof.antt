@@ -1,48 +1,85 @@
--- `optimize::hungarian_algorithm` meets its contract: steps A to G in a row. Assumes nothing.
-use Prim.Native.Nat.{max}
-use mathlib.Core.Path.{_≡_, refl}
-use mathlib.Core.Logic.{⊎-elim}
+-- `optimize::hungarian_algorithm` meets its contract: the square is the first part of an array of zeros. Assumes nothing.
+use Prim.Native.Nat.{_*_}
+use mathlib.Core.Path.{sym}
 use native.Mathlib.Omega.{arith}
+use lib.ListN.{replicate}
+use lib.Seq.{length-take-le}
 use lib.Ieee.{ofBits}
-use Rattle.optimize.proofs.Solve as code
+use Rattle.floats.specs.Float.{zero64}
+use Rattle.optimize.proofs.Solve.{zeros-part}
+use borrow.Author.Needs.{needs}
 use Rattle.optimize.proofs.hungarian_algorithm.Statement.{statement}
 use Rattle.optimize.proofs.hungarian_algorithm.Tie as tie
 
-n-is : (c : tie.Joined1) → c .if1 .n ≡ max (c .before .before .args .rows) (c .before .before .args .cols)
-n-is c = ⊎-elim (λ w. omega arith) (λ w. omega arith) (c .if1 .came)
+larger-side-requires : tie.Need-larger-side-requires
+larger-side-requires c κs = search needs
 
-pad-requires : tie.Need-pad-requires
+mul-places : tie.Need-mul-places
+mul-places c = search needs
+
+array-borrow-prefix-small : tie.Need-array-borrow-prefix-small
+array-borrow-prefix-small c = search needs
+
+slice-aggregate-steps : tie.Need-slice-aggregate-steps
+slice-aggregate-steps c = sym (length-take-le (c .before .before .larger-side .result * 64) (replicate 512 _) (omega arith))
+
+steps-requires : tie.Need-steps-requires
 unfolding ofBits
-pad-requires c κs = (c .before .before .before .pre .0, c .before .before .before .pre .1, c .before .before .before .pre .2, refl)
-
-lower-rows-requires : tie.Need-lower-rows-requires
-lower-rows-requires c κs = omega (arith, n-is (c .before .before .before), c .before .before .before .before .before .pre)
-
-lower-cols-requires : tie.Need-lower-cols-requires
-lower-cols-requires c κs = omega (arith, n-is (c .before .before .before .before .before), c .before .before .before .before .before .before .before .pre)
-
-first-pass-requires : tie.Need-first-pass-requires
-first-pass-requires c κs = omega (arith, n-is (c .before .before .before .before .before .before .before .before .before), c .before .before .before .before .before .before .before .before .before .before .before .pre)
-
-search-requires : tie.Need-search-requires
-unfolding ofBits
-search-requires c κs =
-    let s = c .before .before .before .before .before .before .before .before .before .before .before .before .before .before .before in
-    code.ok (s .args .cost .now) (s .args .rows) (s .args .cols) _ (s .pre .0) (s .pre .1) (n-is (c .before .before .before .before .before .before .before .before .before .before .before .before .before)) _ _ _ (c .before .before .before .before .before .before .before .before .before .before .before .pad .ensures) (c .before .before .before .before .before .before .before .before .before .lower-rows .ensures) (c .before .before .before .before .before .before .before .lower-cols .ensures) _ _ (c .before .before .before .first-pass .ensures)
+steps-requires c κs =
+    let n = c .before .before .before in
+    let s = n .before .before in
+    (s .pre .0, s .pre .1, s .pre .2, n .larger-side .ensures, zeros-part (n .larger-side .result * 64) 512 (omega arith), s .pre .3)
 
 returns : tie.Need-returns
+returns c = search needs
+
+array-borrow-prefix-middle : tie.Need-array-borrow-prefix-middle
+array-borrow-prefix-middle c = search needs
+
+slice-aggregate-steps-2 : tie.Need-slice-aggregate-steps-2
+slice-aggregate-steps-2 c = sym (length-take-le (c .before .before .before .larger-side .result * 64) (replicate 2048 _) (omega arith))
+
+steps-requires-2 : tie.Need-steps-requires-2
 unfolding ofBits
-returns c =
-    let s = c .before .before .before .before .before .before .before .before .before .before .before .before .before .before .before .before in
-    code.solved (s .args .cost .now) (s .args .rows) (s .args .cols) _ (s .pre .0) (s .pre .1) (n-is (c .before .before .before .before .before .before .before .before .before .before .before .before .before .before)) _ _ _ (c .before .before .before .before .before .before .before .before .before .before .before .before .pad .ensures) (c .before .before .before .before .before .before .before .before .before .before .lower-rows .ensures) (c .before .before .before .before .before .before .before .before .lower-cols .ensures) _ _ (c .before .before .before .before .first-pass .ensures) _ _ _ _ _ (c .search .ensures)
+steps-requires-2 c κs =
+    let n = c .before .before .before .before in
+    let s = n .before .before in
+    (s .pre .0, s .pre .1, s .pre .2, n .larger-side .ensures, zeros-part (n .larger-side .result * 64) 2048 (omega arith), s .pre .3)
+
+returns-2 : tie.Need-returns-2
+returns-2 c = search needs
+
+array-borrow-prefix-large : tie.Need-array-borrow-prefix-large
+array-borrow-prefix-large c = search needs
+
+slice-aggregate-steps-3 : tie.Need-slice-aggregate-steps-3
+slice-aggregate-steps-3 c = sym (length-take-le (c .before .before .before .larger-side .result * 64) (replicate 4096 _) (omega arith))
+
+steps-requires-3 : tie.Need-steps-requires-3
+unfolding ofBits
+steps-requires-3 c κs =
+    let n = c .before .before .before .before in
+    let s = n .before .before in
+    (s .pre .0, s .pre .1, s .pre .2, n .larger-side .ensures, zeros-part (n .larger-side .result * 64) 4096 (omega arith), s .pre .3)
+
+returns-3 : tie.Need-returns-3
+returns-3 c = search needs
 
 pub hungarian-algorithm-spec : {M : Type 1} → statement M
 hungarian-algorithm-spec =
     tie.close
     (tie.spec
-    pad-requires
-    lower-rows-requires
-    lower-cols-requires
-    first-pass-requires
-    search-requires
-    returns)
+    larger-side-requires
+    mul-places
+    array-borrow-prefix-small
+    slice-aggregate-steps
+    steps-requires
+    returns
+    array-borrow-prefix-middle
+    slice-aggregate-steps-2
+    steps-requires-2
+    returns-2
+    array-borrow-prefix-large
+    slice-aggregate-steps-3
+    steps-requires-3
+    returns-3)

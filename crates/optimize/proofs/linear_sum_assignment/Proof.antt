@@ -1,5 +1,5 @@
 -- `optimize::linear_sum_assignment` meets its contract, one case a return. Assumes nothing.
-use mathlib.Core.Path.{sym, _∙_}
+use mathlib.Core.Path.{refl, sym, _∙_}
 use native.Mathlib.Omega.{arith}
 use Rattle.optimize.proofs.Number.{fits}
 use Rattle.optimize.proofs.Answers.{refused-at, no-rows-at, no-columns-at, found-at}
@@ -29,13 +29,13 @@ returns-3 : tie.Need-returns-3
 returns-3 c = no-columns-at _ (c .before .before .before .before .assignment-no .ensures) (c .before .before .before .if1 .left) (omega arith) (c .before .if3 .taken) (c .rows-alone .ensures)
 
 hungarian-algorithm-requires : tie.Need-hungarian-algorithm-requires
-hungarian-algorithm-requires c κs = let f = fits _ (c .before .before .before .before .before .args .rows) (c .before .before .before .before .before .args .cols) (sym (c .before .before .before .assignment-no .ensures) ∙ c .before .before .if1 .left) in (f .0, f .1, f .2)
+hungarian-algorithm-requires c κs = let f = fits _ (c .before .before .before .before .before .before .args .rows) (c .before .before .before .before .before .before .args .cols) (sym (c .before .before .before .before .assignment-no .ensures) ∙ c .before .before .before .if1 .left) in (f .0, f .1, f .2, refl)
 
 filtered-requires : tie.Need-filtered-requires
-filtered-requires c κs = let f = fits _ (c .before .before .before .before .before .before .args .rows) (c .before .before .before .before .before .before .args .cols) (sym (c .before .before .before .before .assignment-no .ensures) ∙ c .before .before .before .if1 .left) in (f .0, f .1, f .2)
+filtered-requires c κs = let f = fits _ (c .before .before .before .before .before .before .before .before .args .rows) (c .before .before .before .before .before .before .before .before .args .cols) (sym (c .before .before .before .before .before .before .assignment-no .ensures) ∙ c .before .before .before .before .before .if1 .left) in (f .0, f .1, f .2)
 
 returns-4 : tie.Need-returns-4
-returns-4 c = found-at _ (c .before .before .before .before .before .assignment-no .ensures) (c .before .before .before .before .if1 .left) (omega arith) (omega arith) (c .before .hungarian-algorithm .ensures) (c .filtered .ensures)
+returns-4 c = found-at _ (c .before .before .before .before .before .before .before .assignment-no .ensures) (c .before .before .before .before .before .before .if1 .left) (omega arith) (omega arith) (c .before .before .hungarian-algorithm .ensures) (c .filtered .ensures)
 
 pub linear-sum-assignment-spec : {M : Type 1} → statement M
 linear-sum-assignment-spec =

@@ -8,12 +8,12 @@ bfs-requires : tie.Need-bfs-requires
 bfs-requires c κs = search needs
 
 flip-requires : tie.Need-flip-requires
-flip-requires c κs = let s = c .before .before .before .before .before .before .before .before in
-    path.trail (s .args .c .now) _ _ _ _ (s .pre) _ _ _ _ (c .before .before .before .before .bfs .ensures)
+flip-requires c κs = let s = c .before .before .before .before .before .before .before .before .before in
+    path.trail (s .args .c .now) _ _ _ _ (s .pre .0) _ _ _ _ (c .before .before .before .before .bfs .ensures)
 
 returns : tie.Need-returns
-returns c = let s = c .before .before .before .before .before .before .before .before .before in
-    path.path-made (s .args .c .now) _ _ _ _ (s .pre) _ _ _ _ (c .before .before .before .before .before .bfs .ensures) _ _ (c .flip .ensures)
+returns c = let s = c .before .before .before .before .before .before .before .before .before .before in
+    path.path-made (s .args .c .now) _ _ _ _ (s .pre .0) _ _ _ _ (c .before .before .before .before .before .bfs .ensures) _ _ (c .flip .ensures)
 
 pub augment-spec : {M : Type 1} → statement M
 augment-spec = tie.close (tie.spec bfs-requires flip-requires returns)

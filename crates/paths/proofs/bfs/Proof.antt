@@ -27,7 +27,9 @@ element-write-queue : tie.Need-element-write-queue Inv-loop μ-loop Inv-bfs μ-b
 element-write-queue c = omega arith
 
 bfs-holds : tie.Need-bfs-holds Inv-loop μ-loop Inv-bfs μ-bfs
-bfs-holds c = (c .pre .0, code.begin (c .args .c .now) (c .args .n) (c .args .cols .now) (c .args .start) (c .pre .0) (c .args .from .now) (c .args .queue .now) (c .pre .1) (c .pre .2))
+bfs-holds c =
+    let s = c .before in
+    (s .pre .0, code.begin (s .args .c .now) (s .args .n) (s .args .cols .now) (s .args .start) (s .pre .0) (s .args .from .now) (s .args .queue .now) (s .pre .1) (s .pre .2))
 
 mul-row : tie.Need-mul-row Inv-loop μ-loop Inv-bfs μ-bfs
 mul-row c = omega (arith, code.tail-n _ _ _ _ (c .before .bfs .inv .0) _ _ _ _ _ (c .before .bfs .inv .1), c .before .bfs .inv .0 .tables .n64)
@@ -53,8 +55,8 @@ add-is-zero c = omega (arith, c .before .before .before .loop .inv .0 .tables .n
 mul-is-zero-2 : tie.Need-mul-is-zero-2 Inv-loop μ-loop Inv-bfs μ-bfs
 mul-is-zero-2 c = omega (arith, c .before .before .before .loop .inv .0 .tables .n64, code.row-n _ _ _ _ (c .before .before .before .before .before .before .bfs .inv .0) _ _ _ _ _ (c .before .before .before .before .before .before .bfs .inv .1) (c .before .before .before .before .before .bfs-test .taken))
 
-element-copy-out-is-zero : tie.Need-element-copy-out-is-zero Inv-loop μ-loop Inv-bfs μ-bfs
-element-copy-out-is-zero c = omega (arith, c .before .before .before .loop .inv .0 .tables .n64, code.row-n _ _ _ _ (c .before .before .before .before .before .before .bfs .inv .0) _ _ _ _ _ (c .before .before .before .before .before .before .bfs .inv .1) (c .before .before .before .before .before .bfs-test .taken))
+shared-slice-read-is-zero : tie.Need-shared-slice-read-is-zero Inv-loop μ-loop Inv-bfs μ-bfs
+shared-slice-read-is-zero c = omega (arith, c .before .before .before .before .loop .inv .0 .tables .n64, code.row-n _ _ _ _ (c .before .before .before .before .before .before .before .bfs .inv .0) _ _ _ _ _ (c .before .before .before .before .before .before .before .bfs .inv .1) (c .before .before .before .before .before .before .bfs-test .taken))
 
 is-zero-requires : tie.Need-is-zero-requires Inv-loop μ-loop Inv-bfs μ-bfs
 is-zero-requires c κs = tt
@@ -138,7 +140,7 @@ bfs-spec =
     mul-is-zero
     add-is-zero
     mul-is-zero-2
-    element-copy-out-is-zero
+    shared-slice-read-is-zero
     is-zero-requires
     mul-from
     element-write-from

@@ -63,7 +63,7 @@ reach-col-returns :
     (t : ℕ) →
     reach-col-lts.Need-returns (reach-row-below t, reach-row.Post) (reach-col-at t) reach-col.Post
 reach-col-returns t c =
-    let s = c .before .before in
+    let s = c .before .before .before in
     marks.col-free (s .args .c .now) (s .args .n) (s .args .cols .now) (s .args .col) (s .args .rs .now) (s .args .cs .now) (s .pre .1 .1) (omega arith) (c .if1 .taken)
 
 reach-col-element-copy-out-if2 : (t : ℕ) → reach-col-lts.Need-element-copy-out-if2 (
@@ -79,7 +79,7 @@ reach-col-returns-2 :
     (reach-col-at t)
     reach-col.Post
 reach-col-returns-2 t c =
-    let s = c .before .before .before .before in
+    let s = c .before .before .before .before .before in
     marks.col-none (s .args .c .now) (s .args .n) (s .args .cols .now) (s .args .col) (s .args .rs .now) (s .args .cs .now) (omega arith) (c .before .before .if1 .left) (c .if2 .taken)
 
 reach-col-reach-row-requires : (t : ℕ) → reach-col-lts.Need-reach-row-requires (
@@ -87,9 +87,9 @@ reach-col-reach-row-requires : (t : ℕ) → reach-col-lts.Need-reach-row-requir
   reach-row.Post,
 ) (reach-col-at t) reach-col.Post
 reach-col-reach-row-requires t c κs =
-    let s = c .before .before .before .before .before .before in
+    let s = c .before .before .before .before .before .before .before in
     let h = marks.holes-set (s .args .cs .now) (s .args .col) (omega arith) (s .pre .1 .4) in
-    (omega (arith, h, s .pre .0), (s .pre .1 .0, omega arith, s .pre .1 .2, length-set (s .args .cs .now) (s .args .col) true ∙ s .pre .1 .3))
+    (omega (arith, h, s .pre .0), (s .pre .1 .0, omega arith, s .pre .1 .2, length-set (s .args .cs .now) (s .args .col) true ∙ s .pre .1 .3, s .pre .1 .5))
 
 reach-col-returns-3 :
     (t : ℕ) →
@@ -98,7 +98,7 @@ reach-col-returns-3 :
     (reach-col-at t)
     reach-col.Post
 reach-col-returns-3 t c =
-    let s = c .before .before .before .before .before .before .before in
+    let s = c .before .before .before .before .before .before .before .before in
     marks.col-call (s .args .c .now) (s .args .n) (s .args .cols .now) (s .args .col) (s .args .rs .now) (s .args .cs .now) _ _ (s .pre .1 .1) (omega arith) (c .before .before .before .before .before .if1 .left) _ (c .reach-row .ensures)
 
 abbrev reach-row-Inv-loop : reach-row-lts.InvT-loop
@@ -121,7 +121,7 @@ reach-row-loop-holds : (t : ℕ) → reach-row-lts.Need-loop-holds (
   reach-col-below t,
   reach-col.Post,
 ) (reach-row-at t) reach-row.Post reach-row-Inv-loop reach-row-μ-loop
-reach-row-loop-holds t c = marks.row-start (c .args .c .now) (c .args .n) (c .args .cols .now) (c .args .row) (c .args .rs .now) (c .args .cs .now) (omega arith)
+reach-row-loop-holds t c = let s = c .before .args in marks.row-start (s .c .now) (s .n) (s .cols .now) (s .row) (s .rs .now) (s .cs .now) (omega arith)
 
 reach-row-mul-is-zero : (t : ℕ) → reach-row-lts.Need-mul-is-zero (
   is-zero-reads.Asked,
@@ -147,13 +147,13 @@ reach-row-mul-is-zero-2 : (t : ℕ) → reach-row-lts.Need-mul-is-zero-2 (
 ) (reach-row-at t) reach-row.Post reach-row-Inv-loop reach-row-μ-loop
 reach-row-mul-is-zero-2 t c = omega arith
 
-reach-row-element-copy-out-is-zero : (t : ℕ) → reach-row-lts.Need-element-copy-out-is-zero (
+reach-row-shared-slice-read-is-zero : (t : ℕ) → reach-row-lts.Need-shared-slice-read-is-zero (
   is-zero-reads.Asked,
   is-zero-reads.Learnt,
   reach-col-below t,
   reach-col.Post,
 ) (reach-row-at t) reach-row.Post reach-row-Inv-loop reach-row-μ-loop
-reach-row-element-copy-out-is-zero t c = omega arith
+reach-row-shared-slice-read-is-zero t c = omega arith
 
 reach-row-is-zero-requires : (t : ℕ) → reach-row-lts.Need-is-zero-requires (
   is-zero-reads.Asked,
@@ -178,10 +178,10 @@ reach-row-reach-col-requires : (t : ℕ) → reach-row-lts.Need-reach-col-requir
   reach-col.Post,
 ) (reach-row-at t) reach-row.Post reach-row-Inv-loop reach-row-μ-loop
 reach-row-reach-col-requires t c κs =
-    let s = c .before .before .before .before .before .before .before .before .before in
+    let s = c .before .before .before .before .before .before .before .before .before .before in
     let v = c .before .before .before .before .before .before .before .before .loop .inv in
     let h = marks.holes-mono (s .args .cs .now) (c .before .before .before .before .before .before .before .before .loop .cs) (v .grown .len-col) (v .grown .keep-col) in
-    (omega (arith, h, s .pre .0), (s .pre .1 .0, omega arith, v .grown .len-row ∙ length-set (s .args .rs .now) (s .args .row) true ∙ s .pre .1 .2, v .grown .len-col ∙ s .pre .1 .3, not-true _ (c .before .before .if2 .taken)))
+    (omega (arith, h, s .pre .0), (s .pre .1 .0, omega arith, v .grown .len-row ∙ length-set (s .args .rs .now) (s .args .row) true ∙ s .pre .1 .2, v .grown .len-col ∙ s .pre .1 .3, not-true _ (c .before .before .if2 .taken), s .pre .1 .4))
 
 reach-row-returns : (t : ℕ) → reach-row-lts.Need-returns (
   is-zero-reads.Asked,
@@ -192,7 +192,7 @@ reach-row-returns : (t : ℕ) → reach-row-lts.Need-returns (
 unfolding zeroAt
 reach-row-returns t c =
     let a = c .before .before .before .before .before .before in
-    let s = a .before .before .before .before .before in
+    let s = a .before .before .before .before .before .before in
     let v = a .before .before .before .before .loop .inv in
     marks.row-met (s .args .c .now) (s .args .n) (s .args .cols .now) (s .args .row) _ _ _ _ _ _ _ (s .pre .1 .1) (a .before .before .before .loop-test .taken) v (sym (a .before .is-zero .ensures) ∙ a .if1 .taken) (s .args .rs .now) refl _ (c .if3 .taken) (c .before .reach-col .ensures)
 
@@ -220,7 +220,7 @@ reach-row-loop-again : (t : ℕ) → reach-row-lts.Need-loop-again (
 ) (reach-row-at t) reach-row.Post reach-row-Inv-loop reach-row-μ-loop
 unfolding zeroAt
 reach-row-loop-again t c =
-    let s = c .before .before .before .before .before in
+    let s = c .before .before .before .before .before .before in
     let v = c .before .before .before .before .loop .inv in
     let k = c .before .before .before .before .loop .col in
     let e = c .before .is-zero .ensures in
@@ -243,7 +243,7 @@ reach-row-returns-2 : (t : ℕ) → reach-row-lts.Need-returns-2 (
   reach-col.Post,
 ) (reach-row-at t) reach-row.Post reach-row-Inv-loop reach-row-μ-loop
 reach-row-returns-2 t c =
-    let s = c .before .before in
+    let s = c .before .before .before in
     marks.row-end (s .args .c .now) (s .args .n) (s .args .cols .now) (s .args .row) _ (s .args .rs .now) (s .args .cs .now) _ _ (c .loop-test .left) (c .before .loop .inv)
 
 pub +reach-col+reach-row-spec : {M : Type 1} → statement M
@@ -272,7 +272,7 @@ pub +reach-col+reach-row-spec : {M : Type 1} → statement M
     (reach-row-mul-is-zero t)
     (reach-row-add-is-zero t)
     (reach-row-mul-is-zero-2 t)
-    (reach-row-element-copy-out-is-zero t)
+    (reach-row-shared-slice-read-is-zero t)
     (reach-row-is-zero-requires t)
     (reach-row-element-copy-out-if2 t)
     (reach-row-reach-col-requires t)

@@ -1,5 +1,6 @@
 -- `search::correct` meets its contract, whatever table of rows goes with the marks. Assumes nothing.
 use Prim.Native.Nat.{ℕ, _-_}
+use mathlib.Core.Path.{sym, _∙_}
 use mathlib.Core.List.{List}
 use mathlib.Core.Bool.{false}
 use native.Mathlib.Omega.{arith}
@@ -20,10 +21,18 @@ loop-holds : tie.Need-loop-holds Inv-loop μ-loop
 loop-holds c rows h = code.corr-begin _ _ rows _ _ _ h
 
 least-over-requires : tie.Need-least-over-requires Inv-loop μ-loop
-least-over-requires c κs = c .before .before .before .before .pre .1 .ok .tables .n64
+least-over-requires c κs =
+    let a = c .before .before .before in
+    let v = a .loop .inv (a .before .before .pre .0) (a .before .before .pre .1) .marked .ok in
+    (v .tables .n64, omega (arith, v .len))
 
 useful-requires : tie.Need-useful-requires Inv-loop μ-loop
 useful-requires c κs = tt
+
+same-length : tie.Need-same-length Inv-loop μ-loop
+same-length c =
+    let a = c .before .before .before .before .before .before in
+    a .loop .inv (a .before .before .pre .0) (a .before .before .pre .1) .marked .ok .len ∙ sym (a .before .before .pre .1 .ok .len)
 
 returns : tie.Need-returns Inv-loop μ-loop
 returns c rows h =
@@ -34,23 +43,30 @@ returns c rows h =
 shift-requires : tie.Need-shift-requires Inv-loop μ-loop
 shift-requires c κs =
     let a = c .before .before .before .before .before .before .before .before .before .before in
-    let v = a .loop .inv (a .before .pre .0) (a .before .pre .1) .marked .ok in
-    (v .tables .n64, v .len, length-replicate 64 false)
+    let v = a .loop .inv (a .before .before .pre .0) (a .before .before .pre .1) .marked .ok in
+    (v .tables .n64, omega (arith, v .len), length-replicate 64 false)
 
 add-times : tie.Need-add-times Inv-loop μ-loop
 add-times c =
-    let a = c .before .before .before .before .before .before .before .before .before .before .before in
-    omega (arith, a .loop .inv (a .before .pre .0) (a .before .pre .1) .room)
+    let a = c .before .before .before .before .before .before .before .before .before .before .before .before .before in
+    omega (arith, a .loop .inv (a .before .before .pre .0) (a .before .before .pre .1) .room)
 
 spread-requires : tie.Need-spread-requires Inv-loop μ-loop
 spread-requires c κs =
-    let a = c .before .before .before .before .before .before .before .before .before .before .before .before .before .before .before in
-    let r = a .loop .inv (a .before .pre .0) (a .before .pre .1) .marked .blocked .reached in
-    (a .before .pre .1 .ok .tables .n64, r .len-row, r .len-col)
+    let a = c .before .before .before .before .before .before .before .before .before .before .before .before .before .before .before .before .before in
+    let r = a .loop .inv (a .before .before .pre .0) (a .before .before .pre .1) .marked .blocked .reached in
+    let len = a .loop .inv (a .before .before .pre .0) (a .before .before .pre .1) .marked .ok .len in
+    (a .before .before .pre .1 .ok .tables .n64, r .len-row, r .len-col, omega (arith, len))
+
+same-length-2 : tie.Need-same-length-2 Inv-loop μ-loop
+same-length-2 c =
+    let a = c .before .before .before .before .before .before .before .before .before .before .before .before .before .before .before .before .before .before .before in
+    let len = a .loop .inv (a .before .before .pre .0) (a .before .before .pre .1) .marked .ok .len in
+    omega (arith, len, a .before .before .pre .1 .ok .len)
 
 returns-2 : tie.Need-returns-2 Inv-loop μ-loop
 returns-2 c rows h =
-    let d = c .before .before .before .before .before .before in
+    let d = c .before .before .before .before .before .before .before .before in
     let u = d .before .before .before .before .before in
     let b = u .before .before in
     let a = b .before .before .before .before in
@@ -58,12 +74,12 @@ returns-2 c rows h =
 
 loop-less : tie.Need-loop-less Inv-loop μ-loop
 loop-less c =
-    let a = c .before .before .before .before .before .before .before .before .before .before .before .before .before .before .before .before .before in
-    omega (arith, a .loop .inv (a .before .pre .0) (a .before .pre .1) .room)
+    let a = c .before .before .before .before .before .before .before .before .before .before .before .before .before .before .before .before .before .before .before in
+    omega (arith, a .loop .inv (a .before .before .pre .0) (a .before .before .pre .1) .room)
 
 loop-again : tie.Need-loop-again Inv-loop μ-loop
 loop-again c rows h =
-    let d = c .before .before .before .before .before .before in
+    let d = c .before .before .before .before .before .before .before .before in
     let u = d .before .before .before .before .before in
     let b = u .before .before in
     let a = b .before .before .before .before in
@@ -78,10 +94,12 @@ correct-spec =
     loop-holds
     least-over-requires
     useful-requires
+    same-length
     returns
     shift-requires
     add-times
     spread-requires
+    same-length-2
     returns-2
     loop-less
     loop-again)

@@ -17,7 +17,7 @@ abbrev μ-loop : tie.MeasureT-loop
 μ-loop c n rs cs columns used m₀ row₀ m row = n - row
 
 pick-requires : tie.Need-pick-requires Inv-loop μ-loop
-pick-requires c κs = c .pre
+pick-requires c κs = c .before .pre .0
 
 loop-holds : tie.Need-loop-holds Inv-loop μ-loop
 unfolding div ofBits
@@ -29,7 +29,7 @@ element-copy-out-if1 c = omega arith
 least-row-requires : tie.Need-least-row-requires Inv-loop μ-loop
 least-row-requires c κs =
     let s = c .before .before .before .before in
-    (omega arith, columns-of _ _ _ _ _ (s .before .before .before .pre) (s .before .before .pick .ensures))
+    (omega arith, columns-of _ _ _ _ _ (s .before .before .before .before .pre .0) (s .before .before .pick .ensures), omega arith)
 
 add-row : tie.Need-add-row Inv-loop μ-loop
 add-row c = omega arith
@@ -40,7 +40,7 @@ loop-less c = omega arith
 loop-again : tie.Need-loop-again Inv-loop μ-loop
 loop-again c =
     let a = c .before .before .before in
-    let s = a .before .before .before .args in (
+    let s = a .before .before .before .before .args in (
       omega arith,
       ⊎-elim
           (λ w. code.rows-on (s .c .now) (s .n) (s .rs .now) (s .cs .now) (a .loop .row) _ _ (a .loop .inv .1)
@@ -51,7 +51,7 @@ loop-again c =
 
 returns : tie.Need-returns Inv-loop μ-loop
 returns c =
-    let s = c .before .before .before .before .args in
+    let s = c .before .before .before .before .before .args in
     let e : c .before .loop .row ≡ s .n = omega arith in
     c .before .loop .inv .1 ∙ ap (λ (k : ℕ). leastRows (s .c .now) (s .n) (s .rs .now) (s .cs .now) k) e
 

@@ -18,7 +18,7 @@ abbrev μ-loop : tie.MeasureT-loop
 μ-loop c row columns used least m₀ t₀ m t = used - t
 
 next-below-requires : tie.Need-next-below-requires Inv-loop μ-loop
-next-below-requires c κs = (c .pre .0, c .pre .1, omega arith)
+next-below-requires c κs = let s = c .before in (s .pre .0, s .pre .1, omega arith, s .pre .2)
 
 loop-holds : tie.Need-loop-holds Inv-loop μ-loop
 loop-holds c = let b = c .next-below .ensures in (b .within, b .kept _ (sym (listed-none _ _ _ _)), b .less)
@@ -27,25 +27,25 @@ mul-m : tie.Need-mul-m Inv-loop μ-loop
 mul-m c = omega arith
 
 mul-m-2 : tie.Need-mul-m-2 Inv-loop μ-loop
-mul-m-2 c = omega (arith, c .before .before .before .pre .1 .few)
+mul-m-2 c = omega (arith, c .before .before .before .before .pre .1 .few)
 
 element-copy-out-m : tie.Need-element-copy-out-m Inv-loop μ-loop
-element-copy-out-m c = omega (arith, c .before .before .before .pre .1 .few)
+element-copy-out-m c = omega (arith, c .before .before .before .before .pre .1 .few)
 
 add-m : tie.Need-add-m Inv-loop μ-loop
-add-m c = omega (arith, c .before .before .before .before .pre .1 .inside _ (c .before .loop-test .taken))
+add-m c = omega (arith, c .before .before .before .before .before .pre .1 .inside _ (c .before .loop-test .taken))
 
 mul-m-3 : tie.Need-mul-m-3 Inv-loop μ-loop
-mul-m-3 c = omega (arith, c .before .before .before .before .pre .1 .inside _ (c .before .loop-test .taken))
+mul-m-3 c = omega (arith, c .before .before .before .before .before .pre .1 .inside _ (c .before .loop-test .taken))
 
-element-copy-out-m-2 : tie.Need-element-copy-out-m-2 Inv-loop μ-loop
-element-copy-out-m-2 c = omega (arith, c .before .before .before .before .pre .1 .inside _ (c .before .loop-test .taken))
+shared-slice-read-m : tie.Need-shared-slice-read-m Inv-loop μ-loop
+shared-slice-read-m c = omega (arith, c .before .before .before .before .before .before .pre .1 .inside _ (c .before .before .loop-test .taken))
 
 add-next-below : tie.Need-add-next-below Inv-loop μ-loop
-add-next-below c = omega (arith, c .before .before .before .before .before .pre .1 .few)
+add-next-below c = omega (arith, c .before .before .before .before .before .before .pre .1 .few)
 
 next-below-requires-2 : tie.Need-next-below-requires-2 Inv-loop μ-loop
-next-below-requires-2 c κs = let s = c .before .before .before .before .before in (s .pre .0, s .pre .1, omega arith)
+next-below-requires-2 c κs = let s = c .before .before .before .before .before .before in (s .pre .0, s .pre .1, omega arith, s .pre .2)
 
 loop-less : tie.Need-loop-less Inv-loop μ-loop
 loop-less c = omega (arith, c .next-below2 .ensures .after)
@@ -58,7 +58,7 @@ loop-again c =
 
 returns : tie.Need-returns Inv-loop μ-loop
 returns c =
-    let s = c .before .before .before .args in
+    let s = c .before .before .before .before .args in
     let e : c .before .loop .t ≡ s .used = omega arith in
     c .before .loop .inv .1 ∙ ap (λ (k : ℕ). leastListed (s .c .now) (s .row) (s .columns .now) k (s .least)) e
 
@@ -75,7 +75,7 @@ least-row-spec =
     element-copy-out-m
     add-m
     mul-m-3
-    element-copy-out-m-2
+    shared-slice-read-m
     add-next-below
     next-below-requires-2
     loop-less

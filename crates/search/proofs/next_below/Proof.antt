@@ -33,8 +33,8 @@ add-if1 c = omega (arith, c .before .before .before .pre .1 .inside _ (c .before
 mul-if1-3 : tie.Need-mul-if1-3 Inv-loop μ-loop
 mul-if1-3 c = omega (arith, c .before .before .before .pre .1 .inside _ (c .before .loop-test .taken))
 
-element-copy-out-if1-2 : tie.Need-element-copy-out-if1-2 Inv-loop μ-loop
-element-copy-out-if1-2 c = omega (arith, c .before .before .before .pre .1 .inside _ (c .before .loop-test .taken))
+shared-slice-read-if1 : tie.Need-shared-slice-read-if1 Inv-loop μ-loop
+shared-slice-read-if1 c = omega (arith, c .before .before .before .before .pre .1 .inside _ (c .before .before .loop-test .taken))
 
 returns : tie.Need-returns Inv-loop μ-loop
 returns c = let v = c .before .before .before .before .loop .inv in record { within = v .0; after = v .1; kept = v .2; less = λ _. c .if1 .taken }
@@ -65,7 +65,7 @@ next-below-spec =
     element-copy-out-if1
     add-if1
     mul-if1-3
-    element-copy-out-if1-2
+    shared-slice-read-if1
     returns
     add-t
     loop-less

@@ -15,7 +15,7 @@ abbrev μ-loop : tie.MeasureT-loop
 μ-loop c n cols look rs₀ cs₀ row₀ rs cs row = n - row
 
 loop-holds : tie.Need-loop-holds Inv-loop μ-loop
-loop-holds c = (omega arith, code.begin (c .args .c .now) (c .args .n) (c .args .cols .now) (c .args .look .now) _ _)
+loop-holds c = let s = c .before .args in (omega arith, code.begin (s .c .now) (s .n) (s .cols .now) (s .look .now) _ _)
 
 element-copy-out-if1 : tie.Need-element-copy-out-if1 Inv-loop μ-loop
 element-copy-out-if1 c = omega arith
@@ -24,12 +24,12 @@ reach-row-requires : tie.Need-reach-row-requires Inv-loop μ-loop
 reach-row-requires c κs =
     let a = c .before .before .before .before .before in
     let v = a .loop .inv .1 in
-    (a .before .pre .0, omega arith, v .grown .len-row ∙ a .before .pre .1, v .grown .len-col ∙ a .before .pre .2)
+    (a .before .before .pre .0, omega arith, v .grown .len-row ∙ a .before .before .pre .1, v .grown .len-col ∙ a .before .before .pre .2, a .before .before .pre .3)
 
 returns : tie.Need-returns Inv-loop μ-loop
 returns c =
     let a = c .before .before .before .before .before .before .before in
-    let s = a .before .args in
+    let s = a .before .before .args in
     (λ _. code.met-at (s .c .now) (s .n) (s .cols .now) (s .look .now) _ _ _ _ _ (a .loop .inv .1) _ _ (c .before .before .before .before .if1 .taken) _ (c .if2 .taken) (c .before .reach-row .ensures), λ le. absurd (omega arith))
 
 add-row : tie.Need-add-row Inv-loop μ-loop
@@ -41,7 +41,7 @@ loop-less c = omega arith
 loop-again : tie.Need-loop-again Inv-loop μ-loop
 loop-again c =
     let a = c .before .before .before in
-    let s = a .before .args in
+    let s = a .before .before .args in
     let k = a .loop .row in (
       omega arith,
       ⊎-elim
@@ -55,7 +55,7 @@ loop-again c =
 returns-2 : tie.Need-returns-2 Inv-loop μ-loop
 returns-2 c =
     let a = c .before in
-    let s = a .before .args in
+    let s = a .before .before .args in
     let e : a .loop .row ≡ s .n = omega arith in
     (λ lt. absurd (omega arith), λ _. code.whole (s .c .now) (s .n) (s .cols .now) (s .look .now) _ _ _ _ _ e (a .loop .inv .1))
 

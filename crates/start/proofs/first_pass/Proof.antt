@@ -2,6 +2,7 @@
 use Prim.Native.Nat.{_≤_, _-_}
 use mathlib.Core.Path.{_≡_}
 use native.Mathlib.Omega.{arith}
+use borrow.Author.Needs.{needs}
 use Rattle.start.specs.Steps.{pairsOf, pairRows}
 use Rattle.start.proofs.StepsCode.{pass-none, pass-more, pass-end}
 use Rattle.start.proofs.first_pass.Statement.{statement}
@@ -17,7 +18,7 @@ loop-holds : tie.Need-loop-holds Inv-loop μ-loop
 loop-holds c = (omega arith, pass-none _ _ _)
 
 pair-row-requires : tie.Need-pair-row-requires Inv-loop μ-loop
-pair-row-requires c κs = (omega arith, omega arith)
+pair-row-requires c κs = search needs
 
 add-row : tie.Need-add-row Inv-loop μ-loop
 add-row c = omega arith

@@ -30,8 +30,8 @@ add-x c = omega (arith, c .before .before .pre (c .before .loop .t) (c .loop-tes
 mul-x-2 : tie.Need-mul-x-2 Inv-loop μ-loop
 mul-x-2 c = omega (arith, c .before .before .pre (c .before .loop .t) (c .loop-test .taken))
 
-element-copy-out-x : tie.Need-element-copy-out-x Inv-loop μ-loop
-element-copy-out-x c = omega (arith, c .before .before .pre (c .before .loop .t) (c .loop-test .taken))
+shared-slice-read-x : tie.Need-shared-slice-read-x Inv-loop μ-loop
+shared-slice-read-x c = omega (arith, c .before .before .before .pre (c .before .before .loop .t) (c .before .loop-test .taken))
 
 add-t : tie.Need-add-t Inv-loop μ-loop
 add-t c = omega arith
@@ -60,7 +60,7 @@ least-along-spec =
     mul-x
     add-x
     mul-x-2
-    element-copy-out-x
+    shared-slice-read-x
     add-t
     loop-less
     loop-again

@@ -15,16 +15,22 @@ is-finite-requires c κs = search needs
 less-by-requires : tie.Need-less-by-requires
 less-by-requires c κs = search needs
 
+same-length : tie.Need-same-length
+same-length c = search needs
+
 returns : tie.Need-returns
 returns c =
-    let s = c .before .before .before .before .before .before .args in
-    lower-yes (along (s .first) (s .step)) _ _ _ _ (c .before .before .before .before .least-along .ensures) (c .before .before .before .is-finite .ensures) _ (c .before .before .if1 .taken) (c .less-by .ensures)
+    let s = c .before .before .before .before .before .before .before .before .before .args in
+    lower-yes (along (s .first) (s .step)) _ _ _ _ (c .before .before .before .before .before .before .least-along .ensures) (c .before .before .before .before .before .is-finite .ensures) _ (c .before .before .before .before .if1 .taken) (c .before .before .less-by .ensures)
+
+same-length-2 : tie.Need-same-length-2
+same-length-2 c = search needs
 
 returns-2 : tie.Need-returns-2
 returns-2 c =
-    let s = c .before .before .before .before .args in
+    let s = c .before .before .before .before .before .args in
     lower-no (along (s .first) (s .step)) _ _ _ _ (c .before .before .least-along .ensures) (c .before .is-finite .ensures) _ (c .if1 .left) refl
 
 pub lower-spec : {M : Type 1} → statement M
 lower-spec =
-    tie.close (tie.spec least-along-requires is-finite-requires less-by-requires returns returns-2)
+    tie.close (tie.spec least-along-requires is-finite-requires less-by-requires same-length returns same-length-2 returns-2)

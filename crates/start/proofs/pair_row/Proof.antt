@@ -27,8 +27,8 @@ add-is-zero c = omega arith
 mul-is-zero-2 : tie.Need-mul-is-zero-2 Inv-loop μ-loop
 mul-is-zero-2 c = omega arith
 
-element-copy-out-is-zero : tie.Need-element-copy-out-is-zero Inv-loop μ-loop
-element-copy-out-is-zero c = omega arith
+shared-slice-read-is-zero : tie.Need-shared-slice-read-is-zero Inv-loop μ-loop
+shared-slice-read-is-zero c = omega arith
 
 is-zero-requires : tie.Need-is-zero-requires Inv-loop μ-loop
 is-zero-requires c κs = tt
@@ -66,7 +66,7 @@ loop-less c = omega arith
 loop-again : tie.Need-loop-again Inv-loop μ-loop
 unfolding zeroAt
 loop-again c =
-    let s = c .before .before .before .before .before .args in
+    let s = c .before .before .before .before .before .before .args in
     let l = c .before .before .before .before .loop in
     let z = sym (c .before .is-zero .ensures) in
     let t = pairsOf (l .rows) (l .cols) in (
@@ -96,7 +96,7 @@ pair-row-spec =
     mul-is-zero
     add-is-zero
     mul-is-zero-2
-    element-copy-out-is-zero
+    shared-slice-read-is-zero
     is-zero-requires
     mul-if2
     element-copy-out-if2
