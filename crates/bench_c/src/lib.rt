@@ -3,8 +3,8 @@ mod calls;
 mod metric_updates;
 mod mot;
 
-use frame::Totals;
 use rows::ExtendedMOTAccumulator;
+use totals::Totals;
 
 // The public update by one frame so many times, from a new state; the total distance.
 #[no_mangle]

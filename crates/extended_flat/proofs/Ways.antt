@@ -14,7 +14,7 @@ use Rattle.sizes.specs.Sizes.{lengthsNo}
 use Rattle.sizes.proofs.Laws.{refuses}
 use Rattle.shape.specs.Shape.{shapeNo}
 use Rattle.frame.specs.declared.Booked.{Booked}
-use Rattle.frame.specs.declared.Totals.{Totals}
+use Rattle.totals.specs.declared.Totals.{Totals}
 use Rattle.frame.specs.Frame.{soundState, totalsOf}
 use Rattle.extended.specs.Update.{refusedAt, pairingIn, updateOf}
 use Rattle.extended.proofs.Ways as extended

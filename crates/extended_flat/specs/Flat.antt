@@ -13,7 +13,7 @@ use Rattle.shape.specs.Shape.{shapeNo}
 use Rattle.pairing.specs.declared.Pairing.{Pairing}
 use Rattle.rows.specs.declared.ExtendedMOTAccumulator.{ExtendedMOTAccumulator}
 use Rattle.frame.specs.declared.Booked.{Booked}
-use Rattle.frame.specs.declared.Totals.{Totals}
+use Rattle.totals.specs.declared.Totals.{Totals}
 use Rattle.frame.specs.Frame.{totalsOf}
 use Rattle.extended.specs.Update.{refusedAt, rowsIn, pairingIn, updateOf}
 use Rattle.inplace.specs.declared.Closed.{Closed}

@@ -1,7 +1,7 @@
 // The extended accumulator's public update over flat lent numbers, as it goes over the border to C: no enum and no struct crosses.
 // Ported from norfair-rs, internal/motmetrics/accumulator.rs, which follows py-motmetrics (NOTICE).
-use frame::Totals;
 use inplace::Closed;
+use totals::Totals;
 ghost use mathlib.Core.Path.{_≡_};
 ghost use mathlib.Core.Bool.{true};
 ghost use mathlib.Core.List.{[], _∷_};
@@ -52,7 +52,7 @@ fn sound(run: &[i32], totals: Totals) -> bool
     requires { ⌜ length (now run) ≡ 2304 ⌝ }
     ensures { λ r. ⌜ r ≡ soundState (stateOf (now (run .entry)) totals) ⌝ }
 {
-    if !frame::totals_sound(totals) {
+    if !totals::totals_sound(totals) {
         return false;
     }
     let used = totals.used;
@@ -133,7 +133,7 @@ fn write_totals(t: Totals, counters: &mut [i32], distance: &mut [f64])
 fn whole(run: usize, counters: usize, distance: usize) -> bool
     ensures { λ r. ⌜ r ≡ wholeOf run counters distance ⌝ }
 {
-    frame::all_three(run == 2304, counters == 7, distance == 1)
+    totals::all_three(run == 2304, counters == 7, distance == 1)
 }
 
 // The update of lent runs that are as long as a state's.

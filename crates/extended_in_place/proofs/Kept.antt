@@ -11,7 +11,7 @@ use Rattle.frame.proofs.Kept.{frame-in}
 use Rattle.pairing.specs.declared.Pairing.{Pairing}
 use Rattle.extended.specs.Update.{rowsIn, pairingIn}
 use Rattle.extended.proofs.Ways.{after-ways}
-use Rattle.frame.specs.declared.Totals.{Totals}
+use Rattle.totals.specs.declared.Totals.{Totals}
 use Rattle.inplace.specs.declared.Closed.{Closed}
 use Rattle.inplace.specs.InPlace.{stateOf}
 use Rattle.extended_in_place.specs.Updated.{Updated}

@@ -10,7 +10,7 @@ use lib.Ieee.{Float}
 use Rattle.pairing.specs.declared.Pairing.{Pairing}
 use Rattle.extended.specs.Update.{rowsIn, pairingIn}
 use Rattle.extended.proofs.Ways as ways
-use Rattle.frame.specs.declared.Totals.{Totals}
+use Rattle.totals.specs.declared.Totals.{Totals}
 use Rattle.inplace.specs.declared.Closed.{Closed}
 use Rattle.inplace.specs.InPlace.{stateOf, Framed}
 use Rattle.extended_in_place.specs.Updated.{tableWith, Updated}

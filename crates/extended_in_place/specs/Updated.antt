@@ -6,7 +6,7 @@ use lib.IntN.{ℤ}
 use lib.Ieee.{Float}
 use Rattle.pairing.specs.declared.Pairing.{Pairing}
 use Rattle.extended.specs.Update.{rowsIn, pairingIn, frameAfter}
-use Rattle.frame.specs.declared.Totals.{Totals}
+use Rattle.totals.specs.declared.Totals.{Totals}
 use Rattle.inplace.specs.declared.Closed.{Closed}
 use Rattle.inplace.specs.InPlace.{stateOf, tableAt}
 

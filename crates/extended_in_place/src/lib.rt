@@ -1,9 +1,9 @@
 // The extended accumulator's inner update in place: the table is a lent run of numbers, and no state is copied. Playback and the
 // border to C call it.
 // Ported from norfair-rs, internal/motmetrics/accumulator.rs, which follows py-motmetrics (NOTICE).
-use frame::Totals;
 use inplace::Closed;
 use pairing::Pairing;
+use totals::Totals;
 ghost use mathlib.Core.Path.{_≡_};
 ghost use Prim.Native.Nat.{_≤_};
 ghost use lib.ListN.{length};

@@ -15,7 +15,7 @@ use Rattle.rows.specs.declared.Row.{Row}
 use Rattle.rows.specs.declared.Trial.{Trial}
 use Rattle.rows.specs.Rows.{rowSpot, rowStep, stepped, bookRow, trialAfter}
 use Rattle.rows.proofs.Booking.{row-in}
-use Rattle.frame.specs.declared.Shares.{Shares}
+use Rattle.totals.specs.declared.Shares.{Shares}
 use Rattle.frame.specs.Frame.{nextFrame, sharesOf, roomForAll, raisedBy, closed, frameOf}
 use Rattle.frame.specs.Unbounded.{Tally, tallyRow, tallyAfter, allFit, finalNo, finalTally}
 use Rattle.frame.proofs.Agreement.{Agrees, full-stays, same-long, row-agrees}

@@ -1,4 +1,3 @@
-pub mod Counters
 pub mod Fitting
 pub mod Agreement
 pub mod Finals

@@ -31,7 +31,7 @@ use Rattle.rows.specs.declared.Row.{Row}
 use Rattle.rows.specs.declared.Spot.{Spot}
 use Rattle.rows.specs.declared.Step.{Step}
 use Rattle.rows.specs.Rows.{spotOf, stepOf, rowSpot, rowStep, bookRow, trialAfter}
-use Rattle.frame.specs.declared.Shares.{Shares}
+use Rattle.totals.specs.declared.Shares.{Shares}
 use Rattle.frame.specs.Sound.{SoundState}
 use Rattle.frame.specs.Frame.{totalsSound, soundState, nextFrame, sharesOf, roomForAll, raisedBy, trialNo, closed, frameOf}
 use Rattle.frame.proofs.Finals.{trial-good}

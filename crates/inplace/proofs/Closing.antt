@@ -11,9 +11,9 @@ use Rattle.rows.specs.declared.Row.{Row}
 use Rattle.rows.specs.declared.Trial.{Trial}
 use Rattle.rows.specs.Rows.{trialOf, trialAfter}
 use Rattle.frame.specs.declared.Booked.{Booked}
-use Rattle.frame.specs.declared.Shares.{Shares}
+use Rattle.totals.specs.declared.Shares.{Shares}
 use Rattle.frame.specs.Frame.{nextFrame, stateWith, sharesOf, roomForAll, raisedTotals, raisedBy, closedAt, closed, framed, frameOf}
-use Rattle.frame.specs.declared.Totals.{Totals}
+use Rattle.totals.specs.declared.Totals.{Totals}
 use Rattle.inplace.specs.declared.Tally.{Tally}
 use Rattle.inplace.specs.InPlace.{stateOf, numberOf, tableAt, tableAfter, Framed}
 

@@ -23,7 +23,7 @@ use Rattle.rows.specs.declared.Trial.{Trial}
 use Rattle.rows.specs.Rows.{rowSpot, rowStep, withSlot, trialOf, trialAfter}
 use Rattle.rows.proofs.Booking.{row-in, one-more}
 use Rattle.frame.proofs.Finals.{trial-good}
-use Rattle.frame.specs.declared.Totals.{Totals}
+use Rattle.totals.specs.declared.Totals.{Totals}
 use Rattle.frame.specs.Frame.{stateWith}
 use Rattle.inplace.specs.InPlace.{stateOf, placeOf, before, tableAfter, Logged, undone}
 

@@ -13,10 +13,10 @@ use Rattle.rows.specs.declared.ExtendedMOTAccumulator.{ExtendedMOTAccumulator}
 use Rattle.rows.specs.declared.Row.{Row}
 use Rattle.rows.specs.declared.Trial.{Trial}
 use Rattle.rows.specs.Rows.{rowSpot, rowStep, trialOf, trialAfter}
-use Rattle.frame.specs.declared.Shares.{Shares}
+use Rattle.totals.specs.declared.Shares.{Shares}
 use Rattle.frame.specs.declared.Booked.{Booked}
 use Rattle.frame.specs.Frame.{nextFrame, stateWith, roomForAll, frameOf}
-use Rattle.frame.specs.declared.Totals.{Totals}
+use Rattle.totals.specs.declared.Totals.{Totals}
 use Rattle.inplace.specs.declared.Tally.{Tally}
 use Rattle.inplace.specs.declared.Closed.{Closed}
 

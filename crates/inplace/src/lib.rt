@@ -1,7 +1,7 @@
 // A frame whose pairing is handed in, booked in a lent table, or refused with the table as it came: no state is copied.
 // Ported from norfair-rs, internal/motmetrics/accumulator.rs, which follows py-motmetrics (NOTICE).
-use frame::Shares;
-use frame::Totals;
+use totals::Shares;
+use totals::Totals;
 ghost use mathlib.Core.Path.{_≡_};
 ghost use Prim.Native.Nat.{ℕ, _+_, _<_, _≤_};
 ghost use lib.ListN.{length, getD};
@@ -106,7 +106,7 @@ fn number_of(t: Tally, by: Shares) -> u32
         return 7;
     }
     let totals = t.totals;
-    if !frame::room_for_all(totals, by) {
+    if !totals::room_for_all(totals, by) {
         return 7;
     }
     0
@@ -131,7 +131,7 @@ pub fn book_frame(
     requires { ⌜ (length (now «gt_ids») ≤ 64) × (extra ≤ 64) ⌝ }
     ensures { λ r. ⌜ Framed (now (run .entry)) totals (rowAt (now («gt_ids» .entry)) (now («pred_ids» .entry)) (now («pair_rows» .entry)) (now («pair_cols» .entry)) (now («left_rows» .entry)) pairs) pairs lefts extra (length (now («gt_ids» .entry))) distance (now (run .exit)) r ⌝ }
 {
-    let frame = frame::next_frame(totals.frame_id);
+    let frame = totals::next_frame(totals.frame_id);
     let mut places = [0usize; 64];
     let mut log = [0i32; 576];
     let t = book_rows(
@@ -164,7 +164,7 @@ pub fn book_frame(
         };
     }
     let booked = t.totals;
-    let raised = frame::raised_by(booked, by, distance);
+    let raised = totals::raised_by(booked, by, distance);
     Closed {
         number: 0,
         totals: raised,

@@ -5,8 +5,8 @@ use mathlib.Core.List.{[]}
 use borrow.Author.Needs.{needs}
 use borrow.Author.Tests.{not-true, not-false}
 use Rattle.rows.specs.declared.ExtendedMOTAccumulator.{ExtendedMOTAccumulator}
-use Rattle.frame.specs.declared.Shares.{Shares}
-use Rattle.frame.specs.declared.Totals.{Totals}
+use Rattle.totals.specs.declared.Shares.{Shares}
+use Rattle.totals.specs.declared.Totals.{Totals}
 use Rattle.frame.specs.Frame.{totalsOf, stateWith, roomForAll, raisedTotals, raisedBy, closed}
 use Rattle.frame.proofs.close_frame.Statement.{statement}
 use Rattle.frame.proofs.close_frame.Tie as tie

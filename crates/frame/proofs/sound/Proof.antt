@@ -3,7 +3,7 @@ use mathlib.Core.Path.{_≡_, sym, ap, _∙_}
 use mathlib.Core.List.{[]}
 use borrow.Author.Tests.{not-true, not-false}
 use Rattle.frame.specs.Frame.{soundState, totalsSound, stateWith}
-use Rattle.frame.specs.declared.Totals.{Totals}
+use Rattle.totals.specs.declared.Totals.{Totals}
 use borrow.Author.Needs.{needs}
 use Rattle.frame.proofs.sound.Statement.{statement}
 use Rattle.frame.proofs.sound.Tie as tie

@@ -5,8 +5,8 @@ use lib.Signed.{nonNeg}
 use Rattle.counts.specs.Counts.{roomFor}
 use Rattle.counts.proofs.Tests.{both, all-three}
 use Rattle.rows.specs.declared.ExtendedMOTAccumulator.{ExtendedMOTAccumulator}
-use Rattle.frame.specs.declared.Shares.{Shares}
-use Rattle.frame.specs.Frame.{totalsSound, roomForAll}
+use Rattle.totals.specs.declared.Shares.{Shares}
+use Rattle.totals.specs.Totals.{totalsSound, roomForAll}
 
 module _ (t : ExtendedMOTAccumulator) (by : Shares) where
   abbrev frames : Bool

@@ -1,8 +1,8 @@
--- `frame::Totals::new` meets its contract. Assumes nothing.
+-- `totals::Totals::new` meets its contract. Assumes nothing.
 use mathlib.Core.Path.{refl}
 use lib.Ieee.{ofBits}
-use Rattle.frame.proofs.Totals.new.Statement.{statement}
-use Rattle.frame.proofs.Totals.new.Tie as tie
+use Rattle.totals.proofs.Totals.new.Statement.{statement}
+use Rattle.totals.proofs.Totals.new.Tie as tie
 
 returns : tie.Need-returns
 unfolding ofBits

@@ -1,13 +1,13 @@
--- `frame::room_for_all` meets its contract. Assumes nothing.
+-- `totals::room_for_all` meets its contract. Assumes nothing.
 use mathlib.Core.List.{[]}
 use lib.IntN.{ℤ}
 use Rattle.counts.specs.Counts.{roomFor}
 use Rattle.counts.proofs.Ids.{told}
-use Rattle.frame.proofs.Counters.{room-is}
-use Rattle.frame.specs.Frame.{stateWith}
+use Rattle.totals.proofs.Counters.{room-is}
+use Rattle.totals.specs.Totals.{stateWith}
 use borrow.Author.Needs.{needs}
-use Rattle.frame.proofs.room_for_all.Statement.{statement}
-use Rattle.frame.proofs.room_for_all.Tie as tie
+use Rattle.totals.proofs.room_for_all.Statement.{statement}
+use Rattle.totals.proofs.room_for_all.Tie as tie
 
 room-for-requires : tie.Need-room-for-requires
 room-for-requires c κs = search needs

@@ -1,12 +1,12 @@
--- `frame::totals_sound` meets its contract. Assumes nothing.
+-- `totals::totals_sound` meets its contract. Assumes nothing.
 use mathlib.Core.List.{[]}
 use lib.Signed.{nonNeg}
 use Rattle.counts.proofs.Ids.{told}
-use Rattle.frame.specs.Frame.{stateWith}
-use Rattle.frame.proofs.Counters.{signs-are}
+use Rattle.totals.specs.Totals.{stateWith}
+use Rattle.totals.proofs.Counters.{signs-are}
 use borrow.Author.Needs.{needs}
-use Rattle.frame.proofs.totals_sound.Statement.{statement}
-use Rattle.frame.proofs.totals_sound.Tie as tie
+use Rattle.totals.proofs.totals_sound.Statement.{statement}
+use Rattle.totals.proofs.totals_sound.Tie as tie
 
 not-negative-requires : tie.Need-not-negative-requires
 not-negative-requires c κs = search needs

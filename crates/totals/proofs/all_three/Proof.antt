@@ -1,7 +1,7 @@
--- `frame::all_three` meets its contract. Assumes nothing.
+-- `totals::all_three` meets its contract. Assumes nothing.
 use borrow.Author.Tests.{not-true, not-false}
-use Rattle.frame.proofs.all_three.Statement.{statement}
-use Rattle.frame.proofs.all_three.Tie as tie
+use Rattle.totals.proofs.all_three.Statement.{statement}
+use Rattle.totals.proofs.all_three.Tie as tie
 
 returns : tie.Need-returns
 returns c = rw (not-true (c .before .args .a) (c .if1 .taken))

@@ -1,4 +1,4 @@
--- `frame::next_frame` meets its contract. Assumes nothing.
+-- `totals::next_frame` meets its contract. Assumes nothing.
 use mathlib.Core.Path.{_≡_, sym, ap, _∙_}
 use mathlib.Core.Bool.{true, false}
 use lib.Dec.{lit≤}
@@ -6,10 +6,10 @@ use lib.IntN.{ℤ, pos, _+ℤ_}
 use mir.Facts.{toZ-ofZ}
 use Rattle.counts.specs.Counts.{roomFor}
 use Rattle.counts.proofs.Ids.{back}
-use Rattle.frame.specs.Frame.{nextFrame}
+use Rattle.totals.specs.Totals.{nextFrame}
 use borrow.Author.Needs.{needs}
-use Rattle.frame.proofs.next_frame.Statement.{statement}
-use Rattle.frame.proofs.next_frame.Tie as tie
+use Rattle.totals.proofs.next_frame.Statement.{statement}
+use Rattle.totals.proofs.next_frame.Tie as tie
 
 room-for-requires : tie.Need-room-for-requires
 room-for-requires c κs = search needs

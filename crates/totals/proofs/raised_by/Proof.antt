@@ -1,13 +1,13 @@
--- `frame::raised_by` meets its contract. Assumes nothing.
+-- `totals::raised_by` meets its contract. Assumes nothing.
 use mathlib.Core.List.{[]}
 use native.Mathlib.Omega.{arith}
 use lib.Dec.{lit≤}
 use lib.IntN.{ℤ, pos, _+ℤ_}
 use Rattle.counts.proofs.Ids.{back, told}
-use Rattle.frame.proofs.Counters.{rooms}
-use Rattle.frame.specs.Frame.{stateWith}
-use Rattle.frame.proofs.raised_by.Statement.{statement}
-use Rattle.frame.proofs.raised_by.Tie as tie
+use Rattle.totals.proofs.Counters.{rooms}
+use Rattle.totals.specs.Totals.{stateWith}
+use Rattle.totals.proofs.raised_by.Statement.{statement}
+use Rattle.totals.proofs.raised_by.Tie as tie
 
 add-requires : tie.Need-add-requires
 add-requires c κs =
