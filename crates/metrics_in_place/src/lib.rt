@@ -44,13 +44,13 @@ fn book(
     let events = used.events;
     let truths = used.truths;
     let known = used.hypotheses;
-    if !truths_in_place::truths_fit(&table[..], truths, gt_ids) {
+    if !ids_in_place::truths_fit(&table[..], truths, gt_ids) {
         return Closed {
             number: 5,
             used: used,
         };
     }
-    if !truths_in_place::hypotheses_fit(&hypotheses[..], known, hyp_ids) {
+    if !ids_in_place::hypotheses_fit(&hypotheses[..], known, hyp_ids) {
         return Closed {
             number: 5,
             used: used,
@@ -65,8 +65,8 @@ fn book(
         };
     }
     let pairs = p.pairs;
-    let seen_truths = truths_in_place::see_truths(table, truths, gt_ids);
-    let seen_hypotheses = truths_in_place::see_hypotheses(hypotheses, known, hyp_ids);
+    let seen_truths = ids_in_place::see_truths(table, truths, gt_ids);
+    let seen_hypotheses = ids_in_place::see_hypotheses(hypotheses, known, hyp_ids);
     let matched = truths_in_place::book_matches(
         table,
         seen_truths,

@@ -41,7 +41,7 @@ fn book(
     let truths = used.truths;
     let n = p.used;
     let pairs = p.pairs;
-    if !truths_in_place::matches_fit(&table[..], truths, &pairs[..n], object_ids, hypothesis_ids) {
+    if !ids_in_place::matches_fit(&table[..], truths, &pairs[..n], object_ids, hypothesis_ids) {
         return Closed {
             number: 5,
             used: used,

@@ -1,13 +1,13 @@
--- `truths_in_place::see_truths` meets its contract. Assumes nothing.
+-- `ids_in_place::see_truths` meets its contract. Assumes nothing.
 use mathlib.Core.Path.{_≡_, sym}
 use Prim.Native.Nat.{_≤_}
 use native.Mathlib.Omega.{arith}
 use lib.ListN.{length, take}
 use lib.Seq.{length-take-le}
 use Rattle.truths_in_place.proofs.Seeing as law
 use borrow.Author.Needs.{needs}
-use Rattle.truths_in_place.proofs.see_truths.Statement.{statement}
-use Rattle.truths_in_place.proofs.see_truths.Tie as tie
+use Rattle.ids_in_place.proofs.see_truths.Statement.{statement}
+use Rattle.ids_in_place.proofs.see_truths.Tie as tie
 
 -- the ids' column
 column : (c : tie.After-see-all-arg) → length (take 256 (c .before .args .table .now)) ≡ 256

@@ -1,8 +1,8 @@
--- `truths_in_place::see_hypotheses` meets its contract. Assumes nothing.
+-- `ids_in_place::see_hypotheses` meets its contract. Assumes nothing.
 use Rattle.truths_in_place.proofs.Room.{hypotheses-seen}
 use borrow.Author.Needs.{needs}
-use Rattle.truths_in_place.proofs.see_hypotheses.Statement.{statement}
-use Rattle.truths_in_place.proofs.see_hypotheses.Tie as tie
+use Rattle.ids_in_place.proofs.see_hypotheses.Statement.{statement}
+use Rattle.ids_in_place.proofs.see_hypotheses.Tie as tie
 
 see-all-requires : tie.Need-see-all-requires
 see-all-requires c κs = search needs

@@ -1,10 +1,10 @@
--- `truths_in_place::truths_fit` meets its contract. Assumes nothing.
+-- `ids_in_place::truths_fit` meets its contract. Assumes nothing.
 use mathlib.Core.Path.{sym, _∙_}
 use native.Mathlib.Omega.{arith}
 use lib.Seq.{length-take-le}
 use Rattle.truths_in_place.proofs.Room.{truths-told}
-use Rattle.truths_in_place.proofs.truths_fit.Statement.{statement}
-use Rattle.truths_in_place.proofs.truths_fit.Tie as tie
+use Rattle.ids_in_place.proofs.truths_fit.Statement.{statement}
+use Rattle.ids_in_place.proofs.truths_fit.Tie as tie
 
 slice-aggregate-ids-fit : tie.Need-slice-aggregate-ids-fit
 slice-aggregate-ids-fit c = let s = c .before in let h = s .pre .0 in let n = s .pre .1 in sym (length-take-le (s .args .used) (s .args .table .now) (omega arith))

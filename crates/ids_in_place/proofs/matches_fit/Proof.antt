@@ -1,4 +1,4 @@
--- `truths_in_place::matches_fit` meets its contract. Assumes nothing.
+-- `ids_in_place::matches_fit` meets its contract. Assumes nothing.
 use mathlib.Core.Path.{_≡_, sym, ap, _∙_}
 use mathlib.Core.List.{List}
 use Prim.Native.Nat.{ℕ, _/_}
@@ -8,10 +8,10 @@ use lib.ListN.{length, take, getD, length-map}
 use lib.Seq.{length-take-le}
 use Rattle.id_runs.specs.Runs.{fitIn, rowIdsOf}
 use Rattle.id_runs.proofs.Counting.{all-short, fits}
 use Rattle.truths_in_place.proofs.Room.{matches-told}
 use borrow.Author.Needs.{needs}
-use Rattle.truths_in_place.proofs.matches_fit.Statement.{statement}
-use Rattle.truths_in_place.proofs.matches_fit.Tie as tie
+use Rattle.ids_in_place.proofs.matches_fit.Statement.{statement}
+use Rattle.ids_in_place.proofs.matches_fit.Tie as tie
 
 add-if1 : tie.Need-add-if1
 add-if1 c = search needs
