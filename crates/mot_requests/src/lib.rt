@@ -12,8 +12,6 @@ use lines::session::refused;
 use lines::session::say_count;
 use lines::session::say_float;
 use lines::session::say_whole;
-use log_requests::logs;
-use log_requests::tables;
 use motmetrics::Computed;
 use motmetrics::MOTAccumulator;
 use motmetrics::MOTMetrics;
@@ -35,8 +33,8 @@ struct Played {
 }
 
 fn read_state(from: &mut [u8; 65536], r: Reader) -> ReadState {
-    let l = logs::read_log(from, r);
-    let t = tables::read_truths(from, l.reader);
+    let l = log_requests::read_log(from, r);
+    let t = table_requests::read_truths(from, l.reader);
     let log = l.log;
     let last_match = t.truths;
     let reader = t.reader;
@@ -160,8 +158,8 @@ fn say_state(
     events: usize,
     matches: usize,
 ) -> Writer {
-    let q = logs::say_log(to, w, s.log, events);
-    tables::say_truths(to, q, s.last_match, matches)
+    let q = log_requests::say_log(to, w, s.log, events);
+    table_requests::say_truths(to, q, s.last_match, matches)
 }
 
 fn mot(from: &mut [u8; 65536], to: &mut [u8; 65536], distances: &mut [f64], s: Session) -> Session {

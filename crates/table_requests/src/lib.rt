@@ -1,11 +1,11 @@
 // Tables of ids as words.
 ghost use Prim.Native.Nat.{_≤_};
-use crate::logs::places_shown;
 use lines::input;
 use lines::input::Reader;
 use lines::output::Writer;
 use lines::session::say_count;
 use lines::session::say_whole;
+use log_requests::places_shown;
 use partners::Last;
 use partners::Truths;
 use seen::Hypotheses;

@@ -1,9 +1,9 @@
--- `metric_requests::frames::play` is safe and ends: the measure is the number of frames that are left, and the lent runs keep their lengths. Assumes nothing.
+-- `metric_requests::play` is safe and ends: the measure is the number of frames that are left, and the lent runs keep their lengths. Assumes nothing.
 use lib.ListN.{length}
 use mathlib.Core.Path.{_≡_}
 use borrow.Author.Needs.{needs}
-use Rattle.metric_requests.proofs.frames.play.Statement.{statement}
-use Rattle.metric_requests.proofs.frames.play.Tie as tie
+use Rattle.metric_requests.proofs.play.Statement.{statement}
+use Rattle.metric_requests.proofs.play.Tie as tie
 
 abbrev Inv-loop : tie.InvT-loop
 Inv-loop from₀ to₀ truth₀ predicted₀ frames p₀ left₀ from to truth predicted p left = (length truth ≡ length truth₀) × (length predicted ≡ length predicted₀)

@@ -1,8 +1,8 @@
--- `log_requests::logs::read_events` is safe and ends: it stays within 1,024 places. Assumes nothing.
+-- `log_requests::read_events` is safe and ends: it stays within 1,024 places. Assumes nothing.
 use Prim.Native.Nat.{_≤_, _-_}
 use borrow.Author.Needs.{needs}
-use Rattle.log_requests.proofs.logs.read_events.Statement.{statement}
-use Rattle.log_requests.proofs.logs.read_events.Tie as tie
+use Rattle.log_requests.proofs.read_events.Statement.{statement}
+use Rattle.log_requests.proofs.read_events.Tie as tie
 
 abbrev Inv-loop : tie.InvT-loop
 Inv-loop from₀ used n log₀ q₀ i₀ from log q i = (i ≤ n) × (n ≤ 1024)

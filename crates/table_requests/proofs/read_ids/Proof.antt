@@ -1,8 +1,8 @@
--- `log_requests::tables::read_ids` is safe and ends: it stays within 1,024 places. Assumes nothing.
+-- `table_requests::read_ids` is safe and ends: it stays within 1,024 places. Assumes nothing.
 use Prim.Native.Nat.{_≤_, _-_}
 use borrow.Author.Needs.{needs}
-use Rattle.log_requests.proofs.tables.read_ids.Statement.{statement}
-use Rattle.log_requests.proofs.tables.read_ids.Tie as tie
+use Rattle.table_requests.proofs.read_ids.Statement.{statement}
+use Rattle.table_requests.proofs.read_ids.Tie as tie
 
 abbrev Inv-loop : tie.InvT-loop
 Inv-loop from₀ used n hypotheses₀ q₀ i₀ from hypotheses q i = (i ≤ n) × (n ≤ 1024)

@@ -1,7 +1,7 @@
--- `metric_requests::frames::play_frame` is safe: the runs that are read keep their lengths. Assumes nothing.
+-- `metric_requests::play_frame` is safe: the runs that are read keep their lengths. Assumes nothing.
 use borrow.Author.Needs.{needs}
-use Rattle.metric_requests.proofs.frames.play_frame.Statement.{statement}
-use Rattle.metric_requests.proofs.frames.play_frame.Tie as tie
+use Rattle.metric_requests.proofs.play_frame.Statement.{statement}
+use Rattle.metric_requests.proofs.play_frame.Tie as tie
 
 whole-requires : tie.Need-whole-requires
 whole-requires c κs = search needs

@@ -1,8 +1,8 @@
--- `log_requests::logs::say_events` is safe and ends: it stays within 1,024 places. Assumes nothing.
+-- `log_requests::say_events` is safe and ends: it stays within 1,024 places. Assumes nothing.
 use Prim.Native.Nat.{_≤_, _-_}
 use borrow.Author.Needs.{needs}
-use Rattle.log_requests.proofs.logs.say_events.Statement.{statement}
-use Rattle.log_requests.proofs.logs.say_events.Tie as tie
+use Rattle.log_requests.proofs.say_events.Statement.{statement}
+use Rattle.log_requests.proofs.say_events.Tie as tie
 
 abbrev Inv-loop : tie.InvT-loop
 Inv-loop to₀ n log q₀ i₀ to q i = (i ≤ n) × (n ≤ 1024)

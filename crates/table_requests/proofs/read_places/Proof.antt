@@ -1,8 +1,8 @@
--- `log_requests::tables::read_places` is safe and ends: it stays within 256 places. Assumes nothing.
+-- `table_requests::read_places` is safe and ends: it stays within 256 places. Assumes nothing.
 use Prim.Native.Nat.{_≤_, _-_}
 use borrow.Author.Needs.{needs}
-use Rattle.log_requests.proofs.tables.read_places.Statement.{statement}
-use Rattle.log_requests.proofs.tables.read_places.Tie as tie
+use Rattle.table_requests.proofs.read_places.Statement.{statement}
+use Rattle.table_requests.proofs.read_places.Tie as tie
 
 abbrev Inv-loop : tie.InvT-loop
 Inv-loop from₀ used n truths₀ q₀ i₀ from truths q i = (i ≤ n) × (n ≤ 256)
