@@ -1,12 +1,12 @@
 // Steps D to G of the search. The square lies at stride 64; in the tables n or more is no partner; sets of rows and columns are marks.
 ghost use mathlib.Core.Path.{_≡_};
-ghost use mathlib.Core.Bool.{false};
+ghost use mathlib.Core.Bool.{Bool, false};
 ghost use Prim.Native.Nat.{ℕ, _+_, _*_, _≤_, _<_};
 ghost use mathlib.Core.List.{List};
 ghost use lib.ListN.{length, getD};
 ghost use lib.Ieee.{nan, binary64, add, sub};
 ghost use Rattle.floats.specs.Float.{isZero};
-ghost use Rattle.square.specs.Index.{on};
+ghost use Rattle.square.specs.Index.{on, Picked};
 ghost use Rattle.square.specs.Square.{line};
 ghost use Rattle.paths.specs.State.{state, Ok};
 ghost use Rattle.search.specs.Steps.{leastOver, usefulOf, shiftOf};
@@ -142,19 +142,16 @@ fn least_row(c: &[f64], row: usize, columns: &[usize; 64], used: usize, least: f
     m
 }
 
-// The minimum over the marked rows and the columns that are not marked.
-fn least_over(c: &[f64], n: usize, rs: &[bool; 64], cs: &[bool; 64]) -> f64
-    requires { ⌜ (n ≤ 64) × (n * 64 ≤ length (now c)) ⌝ }
-    ensures { λ r. ⌜ r ≡ leastOver (now (c .entry)) n (now (rs .entry)) (now (cs .entry)) ⌝ }
+// The minimum over the marked rows and the listed columns, which are those outside some C.
+fn least_over(c: &[f64], n: usize, rs: &[bool; 64], columns: &[usize; 64], used: usize) -> f64
+    requires { ⌜ (n ≤ 64) × (n * 64 ≤ length (now c)) × Columns (now columns) used ⌝ }
+    ensures { λ r. ⌜ ((C : List Bool) → Picked false C n (now (columns .entry)) used → r ≡ leastOver (now (c .entry)) n (now (rs .entry)) C) ⌝ }
 {
-    let outside = square::pick(cs, n, false);
-    let columns = outside.places;
-    let used = outside.used;
     let mut m = 1.0 / 0.0;
     let mut row = 0usize;
     while row < n {
         if rs[row] {
-            m = least_row(c, row, &columns, used, m);
+            m = least_row(c, row, columns, used, m);
         }
         row += 1;
     }
@@ -204,22 +201,28 @@ fn put_on(c: &mut [f64], row: usize, columns: &[usize; 64], used: usize, m: f64)
     }
 }
 
-// Step G: m is taken off in R outside C, and put on outside R in C. `hot` gets marks at the rows of R that have a new zero.
-fn shift(c: &mut [f64], n: usize, rs: &[bool; 64], cs: &[bool; 64], m: f64, hot: &mut [bool; 64])
-    requires { ⌜ (n ≤ 64) × (n * 64 ≤ length (now c)) × (length (now hot) ≡ 64) ⌝ }
+// Step G: m is taken off in R outside C, whose columns are listed, and put on outside R in C. `hot` gets marks at the rows of R that have a new zero.
+fn shift(
+    c: &mut [f64],
+    n: usize,
+    rs: &[bool; 64],
+    cs: &[bool; 64],
+    away: &[usize; 64],
+    aways: usize,
+    m: f64,
+    hot: &mut [bool; 64],
+)
+    requires { ⌜ (n ≤ 64) × (n * 64 ≤ length (now c)) × Picked false (now cs) n (now away) aways × (length (now hot) ≡ 64) ⌝ }
     ensures shifted { λ r. ⌜ now (c .exit) ≡ shiftOf n (now (rs .entry)) (now (cs .entry)) m (now (c .entry)) ⌝ }
     ensures marked { λ r. ⌜ Hot n (now (rs .entry)) (now (cs .entry)) (now (c .exit)) (now (hot .exit)) ⌝ }
 {
-    let outside = square::pick(cs, n, false);
-    let away = outside.places;
-    let aways = outside.used;
     let inside = square::pick(cs, n, true);
     let home = inside.places;
     let homes = inside.used;
     let mut row = 0usize;
     while row < n {
         if rs[row] {
-            hot[row] = take_off(c, row, &away, aways, m);
+            hot[row] = take_off(c, row, away, aways, m);
         } else {
             hot[row] = false;
             put_on(c, row, &home, homes, m);
@@ -247,12 +250,15 @@ fn correct(
 {
     let mut times = 0usize;
     loop {
-        let m = least_over(c, n, rs, cs);
+        let outside = square::pick(cs, n, false);
+        let away = outside.places;
+        let aways = outside.used;
+        let m = least_over(c, n, rs, &away, aways);
         if !useful(m) {
             return Corrections { times, stuck: true };
         }
         let mut hot = [false; 64];
-        shift(c, n, rs, cs, m, &mut hot);
+        shift(c, n, rs, cs, &away, aways, m, &mut hot);
         times += 1;
         if spread(c, n, cols, &hot, rs, cs) < n {
             return Corrections {
