@@ -2,8 +2,8 @@
 ghost use mathlib.Core.Path.{_≡_};
 ghost use Prim.Native.Nat.{_+_, _≤_};
 ghost use lib.ListN.{length};
-ghost use Rattle.solver_flat.specs.Flat.{countsOf, rowsOf, colsOf, flatAfter};
-ghost use Rattle.solver_flat.specs.Inner.{Pasted, Full};
+ghost use Rattle.solver_flat.specs.Flat.{countsOf, flatAfter};
+ghost use Rattle.solver_flat.specs.Inner.{Pasted, PairsPasted, Full};
 use optimize::Assignment;
 use optimize::AssignmentResult;
 
@@ -19,27 +19,17 @@ fn copy_at(list: &[usize; 64], out: &mut [usize], at: usize)
     }
 }
 
-// The pairs' rows over the places from `at` on, and their columns.
-fn copy_rows_at(pairs: [Assignment; 64], out: &mut [usize], at: usize)
-    requires { ⌜ (at + 64 ≤ length (now out)) × (length pairs ≡ 64) ⌝ }
-    ensures { λ _. ⌜ Pasted (now (out .entry)) at (rowsOf pairs) 64 (now (out .exit)) ⌝ }
+// The pairs' rows over the places from `rows_at` on, and their columns over those from `cols_at` on. (In one loop: an array of
+// structs is copied for each call.)
+fn copy_pairs_at(pairs: [Assignment; 64], out: &mut [usize], rows_at: usize, cols_at: usize)
+    requires { ⌜ («rows_at» + 64 ≤ «cols_at») × («cols_at» + 64 ≤ length (now out)) × (length pairs ≡ 64) ⌝ }
+    ensures { λ _. ⌜ PairsPasted (now (out .entry)) «rows_at» «cols_at» pairs 64 (now (out .exit)) ⌝ }
 {
     let mut i = 0;
     while i < 64 {
         let pair = pairs[i];
-        out[at + i] = pair.row_idx;
-        i += 1;
-    }
-}
-
-fn copy_cols_at(pairs: [Assignment; 64], out: &mut [usize], at: usize)
-    requires { ⌜ (at + 64 ≤ length (now out)) × (length pairs ≡ 64) ⌝ }
-    ensures { λ _. ⌜ Pasted (now (out .entry)) at (colsOf pairs) 64 (now (out .exit)) ⌝ }
-{
-    let mut i = 0;
-    while i < 64 {
-        let pair = pairs[i];
-        out[at + i] = pair.col_idx;
+        out[rows_at + i] = pair.row_idx;
+        out[cols_at + i] = pair.col_idx;
         i += 1;
     }
 }
@@ -62,8 +52,7 @@ pub fn write_flat(r: AssignmentResult, out: &mut [usize])
 {
     write_counts(r, out);
     let pairs = r.assignments;
-    copy_rows_at(pairs, out, 5);
-    copy_cols_at(pairs, out, 69);
+    copy_pairs_at(pairs, out, 5, 69);
     let unmatched_rows = r.unmatched_rows;
     copy_at(&unmatched_rows, out, 133);
     let unmatched_cols = r.unmatched_cols;

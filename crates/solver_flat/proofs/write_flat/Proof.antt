@@ -7,11 +7,8 @@ use Rattle.solver_flat.proofs.write_flat.Tie as tie
 write-counts-requires : tie.Need-write-counts-requires
 write-counts-requires c κs = search needs
 
-copy-rows-at-requires : tie.Need-copy-rows-at-requires
-copy-rows-at-requires c κs = search needs
-
-copy-cols-at-requires : tie.Need-copy-cols-at-requires
-copy-cols-at-requires c κs = search needs
+copy-pairs-at-requires : tie.Need-copy-pairs-at-requires
+copy-pairs-at-requires c κs = search needs
 
 copy-at-requires : tie.Need-copy-at-requires
 copy-at-requires c κs = search needs
@@ -26,18 +23,17 @@ returns : tie.Need-returns
 returns c =
     let cols-left = c .before .before in
     let rows-left = cols-left .before .before .before .before .before .before in
-    let cols = rows-left .before .before .before .before .before .before in
-    let rows = cols .before .before .before .before in
-    let counts = rows .before .before .before .before .before in
-    flat-is _ _ _ _ _ _ _ (counts .write-counts .ensures) (rows .copy-rows-at .ensures) (cols .copy-cols-at .ensures) (rows-left .copy-at .ensures) (cols-left .copy-at2 .ensures)
+    let pairs = rows-left .before .before .before .before .before .before in
+    let counts = pairs .before .before .before .before .before in
+    let p = pairs .copy-pairs-at .ensures in
+    flat-is _ _ _ _ _ _ _ (counts .write-counts .ensures) (p .rows) (p .cols) (rows-left .copy-at .ensures) (cols-left .copy-at2 .ensures)
 
 pub write-flat-spec : {M : Type 1} → statement M
 write-flat-spec =
     tie.close
     (tie.spec
     write-counts-requires
-    copy-rows-at-requires
-    copy-cols-at-requires
+    copy-pairs-at-requires
     copy-at-requires
     copy-at-requires-2
     same-length
