@@ -217,7 +217,6 @@ fn shift(
     ensures marked { λ r. ⌜ Hot n (now (rs .entry)) (now (cs .entry)) (now (c .exit)) (now (hot .exit)) ⌝ }
 {
     let inside = square::pick(cs, n, true);
-    let home = inside.places;
     let homes = inside.used;
     let mut row = 0usize;
     while row < n {
@@ -225,7 +224,7 @@ fn shift(
             hot[row] = take_off(c, row, away, aways, m);
         } else {
             hot[row] = false;
-            put_on(c, row, &home, homes, m);
+            put_on(c, row, &inside.places, homes, m);
         }
         row += 1;
     }
@@ -251,14 +250,13 @@ fn correct(
     let mut times = 0usize;
     loop {
         let outside = square::pick(cs, n, false);
-        let away = outside.places;
         let aways = outside.used;
-        let m = least_over(c, n, rs, &away, aways);
+        let m = least_over(c, n, rs, &outside.places, aways);
         if !useful(m) {
             return Corrections { times, stuck: true };
         }
         let mut hot = [false; 64];
-        shift(c, n, rs, cs, &away, aways, m, &mut hot);
+        shift(c, n, rs, cs, &outside.places, aways, m, &mut hot);
         times += 1;
         if spread(c, n, cols, &hot, rs, cs) < n {
             return Corrections {

@@ -53,32 +53,32 @@ returns c rows h =
 
 shift-requires : tie.Need-shift-requires Inv-loop μ-loop
 shift-requires c κs =
-    let p = c .before .before .before .before .before .before .before .before .before .before .before .before in
+    let p = c .before .before .before .before .before .before .before .before .before .before .before .before .before in
     let a = p .before .before in
     (small a, le-of-eq (as-long a), p .pick .ensures, length-replicate 64 false)
 
 add-times : tie.Need-add-times Inv-loop μ-loop
 add-times c =
-    let a = c .before .before .before .before .before .before .before .before .before .before .before .before .before .before .before .before .before in
+    let a = c .before .before .before .before .before .before .before .before .before .before .before .before .before .before .before .before .before .before in
     omega (arith, a .loop .inv (a .before .before .pre .0) (a .before .before .pre .1) .room)
 
 spread-requires : tie.Need-spread-requires Inv-loop μ-loop
 spread-requires c κs =
     let d = c .before .before .before .before .before .before in
-    let a = d .before .before .before .before .before .before .before .before .before .before .before .before .before .before .before in
+    let a = d .before .before .before .before .before .before .before .before .before .before .before .before .before .before .before .before in
     let r = a .loop .inv (a .before .before .pre .0) (a .before .before .pre .1) .marked .blocked .reached in
     (small a, r .len-row, r .len-col, le-of-eq (as-long a ∙ sym (d .shift .kept .0)))
 
 same-length-2 : tie.Need-same-length-2 Inv-loop μ-loop
 same-length-2 c =
     let d = c .before .before .before .before .before .before .before .before in
-    let a = d .before .before .before .before .before .before .before .before .before .before .before .before .before .before .before in
+    let a = d .before .before .before .before .before .before .before .before .before .before .before .before .before .before .before .before in
     d .shift .kept .0 ∙ sym (as-long a) ∙ sym (a .before .before .pre .1 .ok .len)
 
 returns-2 : tie.Need-returns-2 Inv-loop μ-loop
 returns-2 c rows h =
     let d = c .before .before .before .before .before .before .before .before in
-    let u = d .before .before .before .before .before .before in
+    let u = d .before .before .before .before .before .before .before in
     let b = u .before .before in
     let p = b .before .before .before .before .before in
     let a = p .before .before in
@@ -86,13 +86,13 @@ returns-2 c rows h =
 
 loop-less : tie.Need-loop-less Inv-loop μ-loop
 loop-less c =
-    let a = c .before .before .before .before .before .before .before .before .before .before .before .before .before .before .before .before .before .before .before .before .before .before .before in
+    let a = c .before .before .before .before .before .before .before .before .before .before .before .before .before .before .before .before .before .before .before .before .before .before .before .before in
     omega (arith, a .loop .inv (a .before .before .pre .0) (a .before .before .pre .1) .room)
 
 loop-again : tie.Need-loop-again Inv-loop μ-loop
 loop-again c rows h =
     let d = c .before .before .before .before .before .before .before .before in
-    let u = d .before .before .before .before .before .before in
+    let u = d .before .before .before .before .before .before .before in
     let b = u .before .before in
     let p = b .before .before .before .before .before in
     let a = p .before .before in

@@ -24,7 +24,7 @@ pick-requires c κs = c .before .pre .0
 
 loop-holds : tie.Need-loop-holds Inv-loop μ-loop
 loop-holds c =
-    let s = c .before .before .before in
+    let s = c .before .before in
     (omega arith, s .pre .0, s .pre .1, over-none _ _ _, hot-rows.hot-none _ (s .pre .0) _ _ _ _ (s .pre .1) _ (s .pre .3))
 
 element-copy-out-if1 : tie.Need-element-copy-out-if1 Inv-loop μ-loop
@@ -34,13 +34,13 @@ row-fits : (c : tie.In-loop Inv-loop μ-loop) → c .before .loop .row * 64 + 64
 row-fits c =
     let a = c .before in
     let v = a .loop .inv in
-    let same : length (a .loop .c) ≡ length (a .before .before .before .before .args .c .now) = ap length (v .3) ∙ over-length _ _ (a .loop .row) _ in
+    let same : length (a .loop .c) ≡ length (a .before .before .before .args .c .now) = ap length (v .3) ∙ over-length _ _ (a .loop .row) _ in
     omega arith
 
 take-off-requires : tie.Need-take-off-requires Inv-loop μ-loop
 take-off-requires c κs =
     let a = c .before .before .before .before in
-    (omega arith, hot-rows.columns-of _ _ _ _ _ (a .loop .inv .1) (a .before .before .before .before .pre .2), row-fits (c .before .before .before))
+    (omega arith, hot-rows.columns-of _ _ _ _ _ (a .loop .inv .1) (a .before .before .before .pre .2), row-fits (c .before .before .before))
 
 element-write-hot : tie.Need-element-write-hot Inv-loop μ-loop
 element-write-hot c = omega arith
@@ -50,9 +50,9 @@ element-write-hot-2 c = omega arith
 
 put-on-requires : tie.Need-put-on-requires Inv-loop μ-loop
 put-on-requires c κs =
-    let a = c .before .before .before .before .before in
+    let a = c .before .before .before .before .before .before in
     let v = a .loop .inv in
-    (omega arith, hot-rows.columns-of _ _ _ _ _ (v .1) (a .before .before .pick .ensures), row-fits (c .before .before .before .before))
+    (omega arith, hot-rows.columns-of _ _ _ _ _ (v .1) (a .before .pick .ensures), row-fits (c .before .before .before .before .before))
 
 add-row : tie.Need-add-row Inv-loop μ-loop
 add-row c = omega arith
@@ -65,7 +65,7 @@ loop-again c =
     let a = c .before .before .before in
     let v = a .loop .inv in
     let k = a .loop .row in
-    let start = a .before .before .before .before in
+    let start = a .before .before .before in
     let s = start .args in
     let lk : k < s .n = omega arith in
     ⊎-elim
@@ -82,8 +82,8 @@ loop-again c =
       omega arith,
       v .1,
       v .2,
-      over-more _ _ k _ _ _ (v .3) (w .6 ∙ w .3 .ensures ∙ code.row-more (s .rs .now) (s .cs .now) _ k _ _ _ (w .0 .left) (a .before .before .pick .ensures) _),
-      hot-rows.hot-at _ (v .1) _ _ _ _ (v .2) _ _ _ (w .7) (hot-rows.hot-other _ (v .1) _ _ _ _ (v .2) _ k (v .4) lk _ refl (w .0 .left)),
+      over-more _ _ k _ _ _ (v .3) (w .7 ∙ w .4 .ensures ∙ code.row-more (s .rs .now) (s .cs .now) _ k _ _ _ (w .0 .left) (a .before .pick .ensures) _),
+      hot-rows.hot-at _ (v .1) _ _ _ _ (v .2) _ _ _ (w .8) (hot-rows.hot-other _ (v .1) _ _ _ _ (v .2) _ k (v .4) lk _ refl (w .0 .left)),
     ))
     (c .if1 .came)
 
@@ -94,7 +94,7 @@ returns : tie.Need-returns Inv-loop μ-loop
 returns c =
     let a = c .before in
     let v = a .loop .inv in
-    let s = a .before .before .before .before .args in
+    let s = a .before .before .before .args in
     let e = over-end (s .n) (correction (s .rs .now) (s .cs .now) (s .m)) (a .loop .row) (s .n) _ _ (omega arith) (v .3) in
     (e, hot-rows.hot-end _ (v .1) _ _ _ _ (v .2) _ (a .loop .row) _ (c .loop-test .left) e (v .4))
 
