@@ -13,8 +13,8 @@ use Rattle.metrics_booking.specs.declared.Updated.{Updated}
 use Rattle.extended.specs.Update as extended
 use Rattle.metrics_update.specs.Update as update
 use Rattle.replay.specs.declared.Both.{Both}
-use Rattle.replay.specs.declared.Row.{Row}
 use Rattle.replay.specs.declared.Step.{Step}
+use Rattle.summary.specs.declared.Row.{Row}
 
 abbrev pub newBoth : Both
 newBoth = record { extended = rows.newState; metrics = metrics.newState }

@@ -1,6 +1,7 @@
 // A frame handed to both accumulators: booked by both, or by neither.
 use metrics::MOTAccumulator;
 use rows::ExtendedMOTAccumulator;
+use summary::Row;
 use wholes::size;
 ghost use mathlib.Core.Path.{_≡_};
 ghost use Prim.Native.Nat.{_-_};
@@ -11,14 +12,6 @@ ghost use Rattle.replay.specs.Replay.{newBoth, rowOf, noRow, refusedAt, 
 pub struct Both {
     pub extended: ExtendedMOTAccumulator,
     pub metrics: MOTAccumulator,
-}
-
-// What a frame added to the extended accumulator's totals.
-pub struct Row {
-    pub matches: u64,
-    pub misses: u64,
-    pub false_positives: u64,
-    pub switches: u64,
 }
 
 // The numbers that both gave, the frame's row, and the states: beside a refusal a row of zeros and the states that came.

@@ -1,7 +1,7 @@
 // A row for each frame, with the coverage so far.
 use lines::output;
 use lines::output::Writer;
-use replay::Row;
+use summary::Row;
 use summary::Running;
 use table_text::bar;
 use table_text::count;

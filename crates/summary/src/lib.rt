@@ -12,6 +12,14 @@ ghost use Rattle.scores.specs.Scores.{Few, count64};
 ghost use Rattle.summary.specs.Coverage.{Below, addedOf, coveredOf, usedOf, shareOf, marksOf, runningOf};
 ghost use Rattle.summary.specs.Totals.{totalsOf, fewOf, noScores, scoresFor, scoresOf};
 
+// What a frame added to the extended accumulator's totals.
+pub struct Row {
+    pub matches: u64,
+    pub misses: u64,
+    pub false_positives: u64,
+    pub switches: u64,
+}
+
 // Tracked and detected frames of some truth ids together.
 pub struct Covered {
     pub tracked: u64,
