@@ -5,6 +5,9 @@ use nalgebra::DMatrix;
 use norfair::internal::motmetrics::iou::{compute_iou_distance_matrix, iou_distance, iou_matrix};
 use std::hint::black_box;
 
+/// So many distances that the call over the border, which is in the port's time alone, is small beside them.
+const TIMES: u64 = 1_000;
+
 /// Players on a pitch: boxes of some 40 by 80, most pairs apart.
 fn boxes(count: usize, seed: u64) -> Vec<f64> {
     let mut state = seed;
@@ -27,13 +30,19 @@ pub fn bench() {
         let (truth_rows, predicted_rows) = (rows(&truth), rows(&predicted));
         let dense = |run: &[f64]| DMatrix::from_row_slice(size, 4, run);
         let (truth_dense, predicted_dense) = (dense(&truth), dense(&predicted));
-        let each = || truth_rows.iter().map(|other| iou_distance(&truth_rows[0], black_box(other))).sum::<f64>();
-        assert_eq!(each(), port::iou_distances(&truth));
+        let each = || {
+            let mut total = 0.0;
+            for _ in 0..TIMES {
+                truth_rows.iter().for_each(|other| total += iou_distance(&truth_rows[0], black_box(other)));
+            }
+            total
+        };
+        assert_eq!(each(), port::iou_distances(&truth, TIMES));
         row(
             "iou_distance",
-            &format!("one box to {size}"),
+            &format!("one box to {size}, {TIMES} times"),
             &mut || { black_box(each()); },
-            &mut || { black_box(port::iou_distances(black_box(&truth))); },
+            &mut || { black_box(port::iou_distances(black_box(&truth), TIMES)); },
         );
         let mut out = vec![0.0; size * size];
         let label = format!("{size} by {size}");

@@ -66,7 +66,7 @@ extern "C" {
         run: *mut i32, run_len: usize, used: usize, gt_ids: *const i32, gt_ids_len: usize, gt: *const f64, gt_len: usize, pred_ids: *const i32, pred_ids_len: usize,
         pred: *const f64, pred_len: usize, threshold: f64, times: u64,
     ) -> f64;
-    fn bench_iou_distances(boxes: *const f64, boxes_len: usize) -> f64;
+    fn bench_iou_distances(boxes: *const f64, boxes_len: usize, times: u64) -> f64;
     fn bench_lifecycles(frame: i32, times: u64) -> f64;
     fn bench_extended_metrics(
         gt_ids: *const i32, gt_ids_len: usize, gt: *const f64, gt_len: usize, pred_ids: *const i32, pred_ids_len: usize,
@@ -312,10 +312,10 @@ pub fn metrics_flat(
     used[0]
 }
 
-/// The distances of the first box to every box, summed.
-pub fn iou_distances(boxes: &[f64]) -> f64 {
+/// The distances of the first box to every box, so many times, summed.
+pub fn iou_distances(boxes: &[f64], times: u64) -> f64 {
     // SAFETY: as above
-    unsafe { bench_iou_distances(boxes.as_ptr(), boxes.len()) }
+    unsafe { bench_iou_distances(boxes.as_ptr(), boxes.len(), times) }
 }
 
 /// A match, a miss and the coverage so many times; the sum of the coverages.

@@ -1,17 +1,11 @@
 -- What the text of a float looks like. Assumes nothing.
 use mathlib.Core.Path.{_≡_}
-use mathlib.Core.Bool.{Bool, true, false, cond}
+use mathlib.Core.Bool.{true, cond}
 use mathlib.Core.List.{List, [], _∷_, _++_}
 use Prim.Native.Nat.{ℕ, _+_, _-_, _/_, _%_, _≤_, _<_}
-use lib.Dec.{ltb, eqb}
+use lib.Dec.{eqb}
 use lib.ListN.{length, take, drop, getD}
-
-abbrev pub isDigit : ℕ → Bool
-isDigit b = cond (ltb b 48) false (ltb b 58)
-
-unfoldable pub allDigits : List ℕ → Bool
-allDigits [] = true
-allDigits (b ∷ bs) = cond (isDigit b) (allDigits bs) false
+unfoldable pub use Rattle.digits.specs.Digits.{allDigits}
 
 -- digits, a point and six digits; a zero stands in front only where it stands alone
 pub record Numeral (text : List ℕ) : Type 0 where

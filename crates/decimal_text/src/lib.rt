@@ -7,13 +7,12 @@ ghost use lib.Ieee.{binary64, toBits};
 ghost use lib.ListN.{length, take};
 ghost use Rattle.io.specs.Counts.{Counts};
 ghost use Rattle.decimal_text.specs.Texts.{allDigits, signOf, nameOf, exponentOf, shownOf, Laid, Numbered, Written, WrittenAt};
-use crate::digits::first_shown;
-use crate::digits::spell;
 use crate::letters::put;
 use crate::limbs::millionths;
+use digits::first_shown;
+use digits::spell;
 use float_bits::bits_of;
 
-pub mod digits;
 pub mod letters;
 pub mod limbs;
 

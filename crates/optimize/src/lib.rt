@@ -172,19 +172,19 @@ fn filtered(
         &mut matched_rows,
         &mut matched_cols,
     );
-    let left_rows = square::pick(&matched_rows, rows, false);
-    let left_cols = square::pick(&matched_cols, cols, false);
+    let mut unmatched_rows = [0usize; 64];
+    let num_unmatched_rows = square::pick(&matched_rows, rows, false, &mut unmatched_rows);
+    let mut unmatched_cols = [0usize; 64];
+    let num_unmatched_cols = square::pick(&matched_cols, cols, false, &mut unmatched_cols);
     let assignments = kept.assignments;
-    let unmatched_rows = left_rows.places;
-    let unmatched_cols = left_cols.places;
     AssignmentResult {
         number: 0,
         assignments,
         num_assignments: kept.used,
         unmatched_rows,
-        num_unmatched_rows: left_rows.used,
+        num_unmatched_rows,
         unmatched_cols,
-        num_unmatched_cols: left_cols.used,
+        num_unmatched_cols,
         corrections: found.corrections,
         paths: found.paths,
     }
@@ -216,8 +216,8 @@ fn rows_alone(rows: usize) -> AssignmentResult
     ensures { λ r. ⌜ r ≡ rowsAlone rows ⌝ }
 {
     let marks = [false; 64];
-    let left = square::pick(&marks, rows, false);
-    let unmatched_rows = left.places;
+    let mut unmatched_rows = [0usize; 64];
+    let num_unmatched_rows = square::pick(&marks, rows, false, &mut unmatched_rows);
     AssignmentResult {
         number: 0,
         assignments: [Assignment {
@@ -226,7 +226,7 @@ fn rows_alone(rows: usize) -> AssignmentResult
         }; 64],
         num_assignments: 0,
         unmatched_rows,
-        num_unmatched_rows: left.used,
+        num_unmatched_rows,
         unmatched_cols: [0usize; 64],
         num_unmatched_cols: 0,
         corrections: 0,

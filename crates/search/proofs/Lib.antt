@@ -6,8 +6,6 @@ pub mod ReachCode
 pub mod ReachOf
 pub mod Leads
 pub mod Sought
-pub mod LoopCode
-pub mod HotRows
 pub mod Unique
 pub mod Bounds
 pub mod Exists

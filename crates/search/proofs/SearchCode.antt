@@ -10,7 +10,8 @@ use Rattle.paths.specs.State.{Ok, State, state, paired}
 use Rattle.paths.specs.Path.{Path}
 use Rattle.paths.proofs.PathLaws.{path-ok}
 use Rattle.search.specs.Steps.{Blocked, Corr, Stop, leastOver, usefulOf, shiftOf}
-use Rattle.search.specs.Inner.{Corrected, CorrsEnd, Corrs, Hot, Looked, Marked, none, more}
+use Rattle.corrections.specs.Inner.{Hot}
+use Rattle.search.specs.Inner.{Corrected, CorrsEnd, Corrs, Looked, Marked, none, more}
 use Rattle.search.specs.Run.{Run, correct, path, stop}
 use Rattle.search.proofs.Bounds.{corr-ok}
 use Rattle.search.proofs.Sought.{again}

@@ -14,7 +14,8 @@ use Rattle.square.proofs.Truth.{dec, not-both, not-of-false}
 use Rattle.paths.specs.Inner.{Leads}
 use Rattle.paths.specs.Path.{NoPathBelow}
 use Rattle.paths.specs.State.{state, Tables, paired}
-use Rattle.search.specs.Inner.{Freed, Hot, Looked, Marked, Met}
+use Rattle.corrections.specs.Inner.{Hot}
+use Rattle.search.specs.Inner.{Freed, Looked, Marked, Met}
 use Rattle.search.specs.Steps.{Blocked, Closed, Reached, shiftOf}
 use Rattle.search.proofs.Grow.{kept}
 use Rattle.search.proofs.Leads.{AllPaired, no-hit-in, leads}

@@ -2,16 +2,17 @@
 -- says of squares and tables. Definitions only.
 use Prim.Native.Nat.{ℕ, _<_}
 use mathlib.Core.Path.{_≡_}
-use mathlib.Core.Bool.{Bool, true, false, not, _&&_, cond}
+use mathlib.Core.Bool.{Bool, true, false}
 use mathlib.Core.List.{List}
 use mathlib.Core.Logic.{_⊎_}
 use lib.ListN.{length, getD}
-use lib.Ieee.{Float, inf, binary64, add, sub, le}
-use Rattle.floats.specs.Float.{isFinite, zero64}
-use Rattle.square.specs.Index.{loop, on}
-use Rattle.square.specs.Square.{at, zeroAt, least, over}
+use lib.Ieee.{Float}
+use Rattle.square.specs.Index.{on}
+use Rattle.square.specs.Square.{zeroAt}
 use Rattle.paths.specs.State.{State, state, paired}
 use Rattle.paths.specs.Path.{NoPath}
+unfoldable pub use Rattle.corrections.specs.Correction.{leastStep, leastRow, leastRows, usefulOf, shiftedOf}
+pub use Rattle.corrections.specs.Correction.{leastOver, correction, shiftOf}
 
 -- ---- D: "All n rows paired"
 abbrev pub Full : ℕ → State → Type 0
@@ -42,26 +43,7 @@ pub record Blocked (n : ℕ) (s : State) (R C : List Bool) : Type 0 where
   pub no-path : NoPath n s
   pub reached : Reached n s R C
 
--- "m is the minimum over R and columns outside C, NaN passed over": one entry, the first k columns of row i, the first k rows, and all
-unfoldable pub leastStep : List Float → List Bool → ℕ → ℕ → Float → Float
-unfolding least
-leastStep c C i j m = cond (on C j) m (least m (at c i j))
-
-unfoldable pub leastRow : List Float → List Bool → ℕ → ℕ → Float → Float
-unfolding loop leastStep
-leastRow c C i k m = loop k (leastStep c C i) m
-
-unfoldable pub leastRows : List Float → ℕ → List Bool → List Bool → ℕ → Float
-unfolding loop leastRow
-leastRows c n R C k = loop k (λ i m. cond (on R i) (leastRow c C i n m) m) (inf false)
-
-abbrev pub leastOver : List Float → ℕ → List Bool → List Bool → Float
-leastOver c n R C = leastRows c n R C n
-
--- "If m isn't finite or m <= 0.0, stop"
-unfoldable pub usefulOf : Float → Bool
-usefulOf m = isFinite m && not (le m zero64)
-
+-- "m is the minimum over R and columns outside C" is `leastOver`, "If m isn't finite or m <= 0.0, stop" `usefulOf`
 pub record Stuck (n : ℕ) (s : State) : Type 0 where
   pub R : List Bool
   pub C : List Bool
@@ -72,20 +54,7 @@ pub record Stuck (n : ℕ) (s : State) : Type 0 where
 abbrev pub Stop : ℕ → State → Type 0
 Stop n s = Full n s ⊎ Stuck n s
 
--- ---- G: "subtract m on R outside C; add m outside R on C"
--- an entry x, its row in R or not, its column in C or not
-unfoldable pub shiftedOf : Bool → Bool → Float → Float → Float
-shiftedOf true true m x = x
-shiftedOf true false m x = sub binary64 x m
-shiftedOf false true m x = add binary64 x m
-shiftedOf false false m x = x
-
-abbrev pub correction : List Bool → List Bool → Float → ℕ → ℕ → Float → Float
-correction R C m i j x = shiftedOf (on R i) (on C j) m x
-
-abbrev pub shiftOf : ℕ → List Bool → List Bool → Float → List Float → List Float
-shiftOf n R C m c = over n n (correction R C m) c
-
+-- ---- G: "subtract m on R outside C; add m outside R on C" is `shiftOf`
 -- ONE COST CORRECTION
 pub record Corr (n : ℕ) (s u : State) : Type 0 where
   pub R : List Bool

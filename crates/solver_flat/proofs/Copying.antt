@@ -1,6 +1,6 @@
 -- A list that is copied place by place, and stores in a row. Assumes nothing.
 use mathlib.Core.Path.{_≡_, refl, sym, ap, _∙_}
-use mathlib.Core.List.{List, _++_}
+use mathlib.Core.List.{List, [], _∷_, _++_}
 use Prim.Native.Nat.{ℕ, _+_, _≤_, _<_}
 use native.Mathlib.Nat.{le-antisymm}
 use native.Mathlib.Numerals.{add-one}
@@ -9,8 +9,7 @@ use lib.ListN.{length, length-append, length-map, length-set, getD, List·getD-m
 use lib.Seq.{length-take-le, take-set-lt, drop-set-lt, set-append-left, paste, paste-zero, paste-suc, sets, sets-eq, length-sets}
 use Rattle.optimize.specs.Answer.{noPair}
 use Rattle.optimize.specs.declared.Assignment.{Assignment}
-use Rattle.optimize.specs.declared.AssignmentResult.{AssignmentResult}
-use Rattle.solver_flat.specs.Flat.{countsOf, rowsOf, colsOf}
+use Rattle.solver_flat.specs.Flat.{rowsOf, colsOf}
 use Rattle.solver_flat.specs.Inner.{Pasted, PairsPasted}
 
 module _ (before : List ℕ) (at : ℕ) (list : List ℕ) where
@@ -69,5 +68,9 @@ module _ (before : List ℕ) (rowsAt colsAt : ℕ) (pairs : List Assignment) whe
     cols = pasted-all (p .between) colsAt (colsOf pairs) a b (p .cols);
   }
 
-pub counts-pasted : (r : AssignmentResult) (before : List ℕ) → 5 ≤ length before → Pasted before 0 (countsOf r) 5 (sets before 0 (countsOf r))
-counts-pasted r before room = record { after-is = sets-eq (countsOf r) before 0 room; same-len = length-sets before 0 (countsOf r) }
+pub counts-pasted : (a b c d e : ℕ) (before : List ℕ) → 5 ≤ length before
+    → Pasted before 0 (a ∷ b ∷ c ∷ d ∷ e ∷ []) 5 (sets before 0 (a ∷ b ∷ c ∷ d ∷ e ∷ []))
+counts-pasted a b c d e before room = record {
+  after-is = sets-eq (a ∷ b ∷ c ∷ d ∷ e ∷ []) before 0 room;
+  same-len = length-sets before 0 (a ∷ b ∷ c ∷ d ∷ e ∷ []);
+}

@@ -1,8 +1,9 @@
 // The solver's answer laid out in 261 places of a lent run, for the border to C.
 ghost use mathlib.Core.Path.{_≡_};
+ghost use mathlib.Core.List.{[], _∷_};
 ghost use Prim.Native.Nat.{_+_, _≤_};
 ghost use lib.ListN.{length};
-ghost use Rattle.solver_flat.specs.Flat.{countsOf, flatAfter};
+ghost use Rattle.solver_flat.specs.Flat.{flatAfter};
 ghost use Rattle.solver_flat.specs.Inner.{Pasted, PairsPasted, Full};
 use optimize::Assignment;
 use optimize::AssignmentResult;
@@ -34,15 +35,22 @@ fn copy_pairs_at(pairs: [Assignment; 64], out: &mut [usize], rows_at: usize, col
     }
 }
 
-fn write_counts(r: AssignmentResult, out: &mut [usize])
+fn write_counts(
+    pairs: usize,
+    rows: usize,
+    cols: usize,
+    corrections: usize,
+    paths: usize,
+    out: &mut [usize],
+)
     requires { ⌜ 5 ≤ length (now out) ⌝ }
-    ensures { λ _. ⌜ Pasted (now (out .entry)) 0 (countsOf r) 5 (now (out .exit)) ⌝ }
+    ensures { λ _. ⌜ Pasted (now (out .entry)) 0 (pairs ∷ rows ∷ cols ∷ corrections ∷ paths ∷ []) 5 (now (out .exit)) ⌝ }
 {
-    out[0] = r.num_assignments;
-    out[1] = r.num_unmatched_rows;
-    out[2] = r.num_unmatched_cols;
-    out[3] = r.corrections;
-    out[4] = r.paths;
+    out[0] = pairs;
+    out[1] = rows;
+    out[2] = cols;
+    out[3] = corrections;
+    out[4] = paths;
 }
 
 // The counts first, since a reader needs them to know how much of each list counts.
@@ -50,11 +58,16 @@ pub fn write_flat(r: AssignmentResult, out: &mut [usize])
     requires { ⌜ (261 ≤ length (now out)) × Full r ⌝ }
     ensures { λ _. ⌜ now (out .exit) ≡ flatAfter r (now (out .entry)) ⌝ }
 {
-    write_counts(r, out);
+    write_counts(
+        r.num_assignments,
+        r.num_unmatched_rows,
+        r.num_unmatched_cols,
+        r.corrections,
+        r.paths,
+        out,
+    );
     let pairs = r.assignments;
     copy_pairs_at(pairs, out, 5, 69);
-    let unmatched_rows = r.unmatched_rows;
-    copy_at(&unmatched_rows, out, 133);
-    let unmatched_cols = r.unmatched_cols;
-    copy_at(&unmatched_cols, out, 197);
+    copy_at(&r.unmatched_rows, out, 133);
+    copy_at(&r.unmatched_cols, out, 197);
 }

@@ -14,7 +14,7 @@ pick-requires-2 : tie.Need-pick-requires-2
 pick-requires-2 c κs = search needs
 
 returns : tie.Need-returns
-returns c = result-is _ _ _ _ _ _ _ _ _ (c .before .before .before .before .before .before .before .keep-pairs .ensures) _ _ _ _ _ _ (c .before .before .before .before .before .pick .ensures) (c .before .before .before .pick2 .ensures)
+returns c = result-is _ _ _ _ _ _ _ _ _ (c .before .before .before .before .before .before .before .keep-pairs .ensures) _ _ _ _ _ _ (c .before .before .before .before .pick .ensures) (c .before .pick2 .ensures)
 
 pub filtered-spec : {M : Type 1} → statement M
 filtered-spec =

@@ -8,7 +8,7 @@ pick-requires : tie.Need-pick-requires
 pick-requires c κs = search needs
 
 returns : tie.Need-returns
-returns c = alone-is _ _ _ (c .before .pick .ensures)
+returns c = alone-is _ _ _ (c .pick .ensures)
 
 pub rows-alone-spec : {M : Type 1} → statement M
 rows-alone-spec = tie.close (tie.spec pick-requires returns)

@@ -25,7 +25,7 @@ same-length : tie.Need-same-length
 same-length c = search needs
 
 returns : tie.Need-returns
-returns c = counts-pasted (c .args .r) (c .args .out .now) (c .pre)
+returns c = counts-pasted _ _ _ _ _ (c .args .out .now) (c .pre)
 
 pub write-counts-spec : {M : Type 1} → statement M
 write-counts-spec =

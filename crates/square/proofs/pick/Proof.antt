@@ -1,6 +1,6 @@
 -- `square::pick` meets its contract: those below `i` are picked. Assumes nothing.
 use Prim.Native.Nat.{_≤_, _-_}
-use mathlib.Core.Path.{_≡_}
+use mathlib.Core.Path.{_≡_, refl}
 use mathlib.Core.Logic.{⊎-elim}
 use native.Mathlib.Omega.{arith}
 use Rattle.square.specs.Index.{Picked}
@@ -15,7 +15,7 @@ abbrev μ-loop : tie.MeasureT-loop
 μ-loop marks n wanted places₀ used₀ i₀ places used i = n - i
 
 loop-holds : tie.Need-loop-holds Inv-loop μ-loop
-loop-holds c = (omega arith, code.picked-none _ _)
+loop-holds c = (omega arith, code.picked-at (c .pre .1) refl (code.picked-none _ _))
 
 element-copy-out-if1 : tie.Need-element-copy-out-if1 Inv-loop μ-loop
 element-copy-out-if1 c = omega arith
@@ -23,8 +23,8 @@ element-copy-out-if1 c = omega arith
 mul-places : tie.Need-mul-places Inv-loop μ-loop
 mul-places c = omega (arith, code.picked-few _ _ _ _ _ (c .before .before .before .loop .inv .1))
 
-array-write-places : tie.Need-array-write-places Inv-loop μ-loop
-array-write-places c = omega (arith, code.picked-few _ _ _ _ _ (c .before .before .before .loop .inv .1))
+element-write-places : tie.Need-element-write-places Inv-loop μ-loop
+element-write-places c = omega (arith, code.picked-few _ _ _ _ _ (c .before .before .before .loop .inv .1))
 
 add-used : tie.Need-add-used Inv-loop μ-loop
 add-used c = omega (arith, code.picked-few _ _ _ _ _ (c .before .before .before .loop .inv .1))
@@ -57,7 +57,7 @@ pick-spec =
     loop-holds
     element-copy-out-if1
     mul-places
-    array-write-places
+    element-write-places
     add-used
     add-i
     loop-less

@@ -1,35 +1,22 @@
 -- `bench_c::calls::bench_iou_distances` is safe and ends. Assumes nothing.
-use Prim.Native.Nat.{_-_}
 use borrow.Author.Needs.{needs}
 use Rattle.bench_c.proofs.calls.bench_iou_distances.Statement.{statement}
 use Rattle.bench_c.proofs.calls.bench_iou_distances.Tie as tie
 
 abbrev Inv-loop : tie.InvT-loop
-Inv-loop boxes count total₀ i₀ total i = Unit {0}
+Inv-loop boxes times total₀ left₀ total left = Unit {0}
 
 abbrev μ-loop : tie.MeasureT-loop
-μ-loop boxes count total₀ i₀ total i = count - i
+μ-loop boxes times total₀ left₀ total left = left
 
 loop-holds : tie.Need-loop-holds Inv-loop μ-loop
 loop-holds c = search needs
 
-box-at-requires : tie.Need-box-at-requires Inv-loop μ-loop
-box-at-requires c κs = search needs
+distances-onto-requires : tie.Need-distances-onto-requires Inv-loop μ-loop
+distances-onto-requires c κs = search needs
 
-box-at-requires-2 : tie.Need-box-at-requires-2 Inv-loop μ-loop
-box-at-requires-2 c κs = search needs
-
-iou-distance-requires : tie.Need-iou-distance-requires Inv-loop μ-loop
-iou-distance-requires c κs = search needs
-
-enum-known-d : tie.Need-enum-known-d Inv-loop μ-loop
-enum-known-d c = search needs
-
-enum-told : tie.Need-enum-told Inv-loop μ-loop
-enum-told c = search needs
-
-add-i : tie.Need-add-i Inv-loop μ-loop
-add-i c = search needs
+sub-left : tie.Need-sub-left Inv-loop μ-loop
+sub-left c = search needs
 
 loop-less : tie.Need-loop-less Inv-loop μ-loop
 loop-less c = search needs
@@ -47,12 +34,8 @@ bench-iou-distances-spec =
     Inv-loop
     μ-loop
     loop-holds
-    box-at-requires
-    box-at-requires-2
-    iou-distance-requires
-    enum-known-d
-    enum-told
-    add-i
+    distances-onto-requires
+    sub-left
     loop-less
     loop-again
     returns)

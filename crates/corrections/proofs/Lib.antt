@@ -1,0 +1,2 @@
+pub mod LoopCode
+pub mod HotRows

@@ -1,0 +1,2 @@
+pub mod Correction
+pub mod Inner
