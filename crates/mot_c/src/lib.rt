@@ -36,14 +36,17 @@ pub extern "C" fn mot_linear_sum_assignment(
 ) -> u32
     ensures { λ r. ⌜ Handed (now (cost .entry)) rows cols «max_cost» r (now (out .entry)) (now (out .exit)) ⌝ }
 {
-    let answer = optimize::linear_sum_assignment(cost, rows, cols, max_cost);
-    let number = answer.number;
+    let number = optimize::assignment_no(cost.len(), rows, cols);
     if number != 0 {
         return number;
     }
     if out.len() < 261 {
         return 6;
     }
-    solver_flat::write_flat(answer, out);
+    if cols == 0 {
+        solver_flat::write_rows_alone(rows, out);
+        return 0;
+    }
+    solver_flat::write_found(cost, rows, cols, max_cost, out);
     0
 }

@@ -27,7 +27,7 @@ pub struct AssignmentResult {
 }
 
 // Document 01's number: 2 for too many rows or columns, 3 for a length that is not theirs, or 0 rows with columns.
-fn assignment_no(len: usize, rows: usize, cols: usize) -> u32
+pub fn assignment_no(len: usize, rows: usize, cols: usize) -> u32
     ensures { λ r. ⌜ r ≡ assignmentNo len rows cols ⌝ }
 {
     if 64 < rows {
@@ -75,7 +75,7 @@ fn steps(
 
 // Steps A to G: each row's column, which is no real one from the number of columns on, and the counts of steps G and E.
 // (Three sizes of square: to clear 4,096 places costs more than all else of a small matrix.)
-fn hungarian_algorithm(
+pub fn hungarian_algorithm(
     cost: &[f64],
     rows: usize,
     cols: usize,
@@ -99,7 +99,7 @@ fn hungarian_algorithm(
 }
 
 // Whether a row and a column are a real pair whose cost, as given, is at most max_cost.
-fn passes(cost: &[f64], cols: usize, max_cost: f64, row: usize, col: usize) -> bool
+pub fn passes(cost: &[f64], cols: usize, max_cost: f64, row: usize, col: usize) -> bool
     requires { ⌜ row * cols + cols ≤ length (now cost) ⌝ }
     ensures { λ r. ⌜ r ≡ passesOf (now (cost .entry)) cols «max_cost» row col ⌝ }
 {

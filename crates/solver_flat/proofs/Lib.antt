@@ -1,2 +1,3 @@
 pub mod Border
-pub mod Copying
+pub mod Pasting
+pub mod Turns

@@ -2,11 +2,10 @@
 use Prim.Native.Nat.{ℕ, zero, suc}
 use mathlib.Core.Path.{_≡_}
 use mathlib.Core.Bool.{cond}
-use mathlib.Core.List.{List, [], _∷_, map}
+use mathlib.Core.List.{List, [], _∷_, _++_, map}
 use lib.Dec.{ltb}
 use lib.Ieee.{Float}
-use lib.ListN.{length}
-use lib.Seq.{paste}
+use lib.ListN.{length, drop}
 use Rattle.optimize.specs.Answer.{Answered}
 use Rattle.optimize.specs.declared.Assignment.{Assignment}
 use Rattle.optimize.specs.declared.AssignmentResult.{AssignmentResult}
@@ -21,11 +20,9 @@ rowsOf pairs = map (λ (p : Assignment). p .«row_idx») pairs
 abbrev pub colsOf : List Assignment → List ℕ
 colsOf pairs = map (λ (p : Assignment). p .«col_idx») pairs
 
--- five counts from place 0; then 64 places each: the pairs' rows, their columns, the unmatched rows, the unmatched columns
+-- five counts; then 64 places each: the pairs' rows, their columns, the unmatched rows, the unmatched columns; what stands behind the 261 stays
 unfoldable pub flatAfter : AssignmentResult → List ℕ → List ℕ
-flatAfter r out =
-    paste (paste (paste (paste (paste out 0 (countsOf r) 5) 5 (rowsOf (r .assignments)) 64) 69 (colsOf (r .assignments)) 64) 133 (r .«unmatched_rows») 64) 197
-    (r .«unmatched_cols») 64
+flatAfter r out = countsOf r ++ (rowsOf (r .assignments) ++ (colsOf (r .assignments) ++ (r .«unmatched_rows» ++ (r .«unmatched_cols» ++ drop 261 out))))
 
 -- the solver's own number; 6 where that is 0 and the lent run is shorter than 261
 abbrev pub flatNo : ℕ → ℕ → ℕ

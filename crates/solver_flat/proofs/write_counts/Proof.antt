@@ -1,7 +1,7 @@
 -- `solver_flat::write_counts` meets its contract: five stores in a row. Assumes nothing.
 use native.Mathlib.Omega.{arith}
 use lib.ListN.{length-set}
-use Rattle.solver_flat.proofs.Copying.{counts-pasted}
+use Rattle.solver_flat.proofs.Pasting.{counts-pasted}
 use borrow.Author.Needs.{needs}
 use Rattle.solver_flat.proofs.write_counts.Statement.{statement}
 use Rattle.solver_flat.proofs.write_counts.Tie as tie
