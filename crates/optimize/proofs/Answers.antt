@@ -13,7 +13,7 @@ use Rattle.search.specs.Run.{pairs, sumFrom}
 use Rattle.optimize.specs.declared.AssignmentResult.{AssignmentResult}
 use Rattle.optimize.specs.Answer.{assignmentNo, Solved, Answered, refused, no-rows, no-columns, found, resultOf, emptyOf, rowsAlone}
 use Rattle.optimize.proofs.Number.{fits}
-use Rattle.optimize.proofs.Solve.{solved-one, solved-exists, solved-bounded}
+use Rattle.hungarian.proofs.Solve.{solved-one, solved-exists, solved-bounded}
 
 module _ (m : List Float) (h w : ℕ) (limit : Float) where
   -- ONE ANSWER: two permitted answers are the same

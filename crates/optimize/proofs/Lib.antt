@@ -1,5 +1,4 @@
 pub mod Number
 pub mod Listing
-pub mod Solve
 pub mod Answers
 pub mod Names

@@ -19,7 +19,7 @@ use Rattle.optimize.specs.declared.AssignmentResult.{AssignmentResult}
 use Rattle.optimize.specs.Answer.{Answered, emptyOf, refused, no-rows, no-columns, found, Solved, keeps, taken, pairOf, noPair, resultOf}
 use Rattle.optimize.proofs.Number.{fits}
 use Rattle.optimize.proofs.Listing.{real}
-use Rattle.optimize.proofs.Solve.{solved-ok}
+use Rattle.hungarian.proofs.Solve.{solved-ok}
 
 -- ---- the lists of a result
 abbrev pub pairRows : AssignmentResult → List ℕ

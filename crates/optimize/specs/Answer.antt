@@ -1,6 +1,6 @@
 -- The solver's answer: document 01's number, what the search found within max_cost, and the two counts. h rows, w columns; m is the matrix, a run, row after row.
 -- The encoding adds: a list stands in 64 places with a count of those used, zeros behind it; a column of w or more is no real one. Definitions only.
-use Prim.Native.Nat.{ℕ, _*_, _<_, max}
+use Prim.Native.Nat.{ℕ, _*_, _<_}
 use mathlib.Core.Path.{_≡_}
 use mathlib.Core.Bool.{Bool, true, not, cond, _&&_, _||_}
 use mathlib.Core.List.{List}
@@ -8,21 +8,14 @@ use lib.ListN.{length, getD, replicate}
 use lib.Dec.{ltb, eqb}
 use lib.Ieee.{Float, le}
 use Rattle.square.specs.Index.{count, any, gather, filled}
-use Rattle.paths.specs.State.{state}
-use Rattle.start.specs.Steps.{entry, startOf}
-use Rattle.search.specs.Run.{Run}
+use Rattle.start.specs.Steps.{entry}
+pub use Rattle.hungarian.specs.Solved.{Solved}
 use Rattle.optimize.specs.declared.Assignment.{Assignment}
 use Rattle.optimize.specs.declared.AssignmentResult.{AssignmentResult}
 
 -- the number, lowest first: 2, more than 64 rows or columns; 3, 0 rows with columns; 3, not rows times columns long. Sizes are tested before they are multiplied.
 unfoldable pub assignmentNo : ℕ → ℕ → ℕ → ℕ
 assignmentNo len h w = cond (ltb 64 h || ltb 64 w) 2 (cond (eqb h 0 && ltb 0 w) 3 (cond (eqb len (h * w)) 0 3))
-
--- steps A to G: from the start they lead to a stop, whose row partners are rows
-pub record Solved (m : List Float) (h w corrections paths : ℕ) (rows : List ℕ) : Type 0 where
-  pub square : List Float
-  pub cols : List ℕ
-  pub run : Run (max h w) (startOf m h w) corrections paths (state square rows cols)
 
 -- "real pairs with cost <= max_cost, cost read from the matrix as given": NaN never passes
 unfoldable pub passesOf : List Float → ℕ → Float → ℕ → ℕ → Bool

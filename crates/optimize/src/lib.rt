@@ -3,10 +3,9 @@
 use search::Counts;
 ghost use mathlib.Core.Path.{_≡_};
 ghost use mathlib.Core.Bool.{false};
-ghost use Prim.Native.Nat.{_+_, _*_, _≤_, max};
+ghost use Prim.Native.Nat.{_+_, _*_, _≤_};
 ghost use lib.ListN.{length, replicate};
-ghost use Rattle.floats.specs.Float.{zero64};
-ghost use Rattle.optimize.specs.Answer.{assignmentNo, Solved, passesOf, resultOf, emptyOf, rowsAlone, Answered};
+ghost use Rattle.optimize.specs.Answer.{assignmentNo, passesOf, resultOf, emptyOf, rowsAlone, Answered};
 ghost use Rattle.optimize.specs.Inner.{Listed};
 
 pub struct Assignment {
@@ -42,60 +41,6 @@ pub fn assignment_no(len: usize, rows: usize, cols: usize) -> u32
         }
     }
     if len == rows * cols { 0 } else { 3 }
-}
-
-fn larger_side(rows: usize, cols: usize) -> usize
-    ensures { λ r. ⌜ r ≡ max rows cols ⌝ }
-{
-    if rows < cols {
-        return cols;
-    }
-    rows
-}
-
-// Steps A to G, in a lent square of side n that holds zeros.
-fn steps(
-    cost: &[f64],
-    rows: usize,
-    cols: usize,
-    n: usize,
-    c: &mut [f64],
-    row_match: &mut [usize; 64],
-) -> Counts
-    requires { ⌜ (rows ≤ 64) × (cols ≤ 64) × (length (now cost) ≡ rows * cols) × (n ≡ max rows cols) × (now c ≡ replicate (n * 64) zero64) × (now «row_match» ≡ replicate 64 64) ⌝ }
-    ensures { λ r. ⌜ Solved (now (cost .entry)) rows cols (r .corrections) (r .paths) (now («row_match» .exit)) ⌝ }
-{
-    let mut col_match = [64usize; 64];
-    start::pad(cost, rows, cols, c);
-    start::lower_rows(c, n);
-    start::lower_cols(c, n);
-    start::first_pass(c, n, row_match, &mut col_match);
-    search::search(c, n, row_match, &mut col_match)
-}
-
-// Steps A to G: each row's column, which is no real one from the number of columns on, and the counts of steps G and E.
-// (Three sizes of square: to clear 4,096 places costs more than all else of a small matrix.)
-pub fn hungarian_algorithm(
-    cost: &[f64],
-    rows: usize,
-    cols: usize,
-    row_match: &mut [usize; 64],
-) -> Counts
-    requires { ⌜ (rows ≤ 64) × (cols ≤ 64) × (length (now cost) ≡ rows * cols) × (now «row_match» ≡ replicate 64 64) ⌝ }
-    ensures { λ r. ⌜ Solved (now (cost .entry)) rows cols (r .corrections) (r .paths) (now («row_match» .exit)) ⌝ }
-{
-    let n = larger_side(rows, cols);
-    let places = n * 64;
-    if n <= 8 {
-        let mut small = [0.0f64; 512];
-        return steps(cost, rows, cols, n, &mut small[..places], row_match);
-    }
-    if n <= 32 {
-        let mut middle = [0.0f64; 2048];
-        return steps(cost, rows, cols, n, &mut middle[..places], row_match);
-    }
-    let mut large = [0.0f64; 4096];
-    steps(cost, rows, cols, n, &mut large[..places], row_match)
 }
 
 // Whether a row and a column are a real pair whose cost, as given, is at most max_cost.
@@ -254,6 +199,6 @@ pub fn linear_sum_assignment(
         return rows_alone(rows);
     }
     let mut row_match = [64usize; 64];
-    let found = hungarian_algorithm(cost, rows, cols, &mut row_match);
+    let found = hungarian::hungarian_algorithm(cost, rows, cols, &mut row_match);
     filtered(cost, rows, cols, max_cost, &row_match, found)
 }

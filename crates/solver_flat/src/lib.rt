@@ -103,7 +103,7 @@ pub fn write_found(cost: &[f64], rows: usize, cols: usize, max_cost: f64, out: &
 {
     clear_lists(out);
     let mut row_match = [64usize; 64];
-    let found = optimize::hungarian_algorithm(cost, rows, cols, &mut row_match);
+    let found = hungarian::hungarian_algorithm(cost, rows, cols, &mut row_match);
     let mut matched_rows = [false; 64];
     let mut matched_cols = [false; 64];
     let pairs = keep_pairs_at(

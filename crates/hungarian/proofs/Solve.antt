@@ -14,7 +14,7 @@ use Rattle.search.specs.Run.{Run, pairs, sumFrom}
 use Rattle.search.proofs.Unique.{one-run}
 use Rattle.search.proofs.Bounds.{run-ok, run-bounded}
 use Rattle.search.proofs.Exists.{run-exists}
-use Rattle.optimize.specs.Answer.{Solved}
+use Rattle.hungarian.specs.Solved.{Solved}
 
 -- ---- the square: the first places of an array of zeros
 pub zeros-part : (k m : ℕ) → k ≤ m → take k (replicate m zero64) ≡ replicate k zero64

@@ -1,4 +1,4 @@
--- `optimize::hungarian_algorithm` meets its contract: the square is the first part of an array of zeros. Assumes nothing.
+-- `hungarian::hungarian_algorithm` meets its contract: the square is the first part of an array of zeros. Assumes nothing.
 use Prim.Native.Nat.{_*_}
 use mathlib.Core.Path.{sym}
 use native.Mathlib.Omega.{arith}
@@ -6,10 +6,10 @@ use lib.ListN.{replicate}
 use lib.Seq.{length-take-le}
 use lib.Ieee.{ofBits}
 use Rattle.floats.specs.Float.{zero64}
-use Rattle.optimize.proofs.Solve.{zeros-part}
+use Rattle.hungarian.proofs.Solve.{zeros-part}
 use borrow.Author.Needs.{needs}
-use Rattle.optimize.proofs.hungarian_algorithm.Statement.{statement}
-use Rattle.optimize.proofs.hungarian_algorithm.Tie as tie
+use Rattle.hungarian.proofs.hungarian_algorithm.Statement.{statement}
+use Rattle.hungarian.proofs.hungarian_algorithm.Tie as tie
 
 larger-side-requires : tie.Need-larger-side-requires
 larger-side-requires c κs = search needs

@@ -1,13 +1,13 @@
--- `optimize::steps` meets its contract: steps A to G in a row. Assumes nothing.
+-- `hungarian::steps` meets its contract: steps A to G in a row. Assumes nothing.
 use Prim.Native.Nat.{ℕ, _*_}
 use mathlib.Core.Path.{_≡_, ap, _∙_}
 use native.Mathlib.Omega.{arith}
 use lib.ListN.{length, replicate, length-replicate}
 use Rattle.floats.specs.Float.{zero64}
-use Rattle.optimize.proofs.Solve as code
+use Rattle.hungarian.proofs.Solve as code
 use borrow.Author.Needs.{needs}
-use Rattle.optimize.proofs.steps.Statement.{statement}
-use Rattle.optimize.proofs.steps.Tie as tie
+use Rattle.hungarian.proofs.steps.Statement.{statement}
+use Rattle.hungarian.proofs.steps.Tie as tie
 
 long : (s : tie.Start) → length (s .args .c .now) ≡ s .args .n * 64
 long s = ap length (s .pre .4) ∙ length-replicate _ zero64
