@@ -6,7 +6,7 @@ use wholes::size;
 ghost use mathlib.Core.Path.{_≡_};
 ghost use Prim.Native.Nat.{_-_};
 ghost use lib.IntN.{natAbs};
-ghost use Rattle.replay.specs.Replay.{newBoth, rowOf, noRow, refusedAt, bookedBy, stepOf};
+ghost use Rattle.replay.specs.Replay.{rowOf, noRow, refusedAt, bookedBy, stepOf};
 
 // The accumulators that a scene is scored by: the extended one, and module 4's.
 pub struct Both {
@@ -20,17 +20,6 @@ pub struct Step {
     pub metrics_number: u32,
     pub row: Row,
     pub both: Both,
-}
-
-pub fn start() -> Both
-    ensures { λ r. ⌜ r ≡ newBoth ⌝ }
-{
-    let extended = ExtendedMOTAccumulator::new();
-    let metrics = MOTAccumulator::new();
-    Both {
-        extended: extended,
-        metrics: metrics,
-    }
 }
 
 fn gap(after: i32, before: i32) -> u64

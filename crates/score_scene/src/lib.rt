@@ -1,10 +1,14 @@
 // A scene played frame by frame through both accumulators, and what is said of it.
+ghost use mathlib.Core.Path.{_≡_};
 ghost use Prim.Native.Nat.{_<_};
+ghost use Rattle.replay.specs.Replay.{newBoth};
 ghost use Rattle.score_scene.specs.Playing.{sceneStep, runAfter, playedOf, Stands};
 use lines::output;
 use lines::output::Writer;
+use metrics::MOTAccumulator;
 use replay::Both;
 use replay::Step;
+use rows::ExtendedMOTAccumulator;
 use scenes::Scene;
 use score_text::frames::say_head;
 use score_text::frames::say_row;
@@ -18,6 +22,18 @@ struct Played {
     both: Both,
     writer: Writer,
     over: bool,
+}
+
+// Two new states.
+fn start() -> Both
+    ensures { λ r. ⌜ r ≡ newBoth ⌝ }
+{
+    let extended = ExtendedMOTAccumulator::new();
+    let metrics = MOTAccumulator::new();
+    Both {
+        extended: extended,
+        metrics: metrics,
+    }
 }
 
 // A refusal ends a run: the rows before it stand, and the states are those after the last row.
@@ -91,7 +107,7 @@ fn play(to: &mut [u8; 65536], w: Writer, scene: Scene, frames: usize) -> Played
     requires { ⌜ frames < 10000 ⌝ }
     ensures { λ r. ⌜ Stands (r .both) (r .over) (playedOf scene frames) ⌝ }
 {
-    let both = replay::start();
+    let both = start();
     let mut p = Played {
         both,
         writer: w,

@@ -1,7 +1,7 @@
--- `replay::start` meets its contract. Assumes nothing.
+-- `score_scene::start` meets its contract. Assumes nothing.
 use borrow.Author.Needs.{needs}
-use Rattle.replay.proofs.start.Statement.{statement}
-use Rattle.replay.proofs.start.Tie as tie
+use Rattle.score_scene.proofs.start.Statement.{statement}
+use Rattle.score_scene.proofs.start.Tie as tie
 
 new-requires : tie.Need-new-requires
 new-requires c κs = search needs
