@@ -49,7 +49,7 @@ fn case(kind: &str, size: usize, run: &[f64]) {
     assert_same(&rows, run, size);
     let mut out = [0; port::FLAT];
     row(
-        "linear_sum_assignment",
+        "mot_linear_sum_assignment",
         &format!("{size} by {size}, {kind}"),
         &mut || drop(black_box(linear_sum_assignment(black_box(&rows), MAX_COST))),
         &mut || {
