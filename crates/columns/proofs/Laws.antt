@@ -1,4 +1,4 @@
--- A slot read back from its numbers, and a table with one slot written. Assumes nothing.
+-- A table with one slot written. Assumes nothing.
 use mathlib.Core.Path.{_≡_, refl, sym, ap, _∙_, subst}
 use mathlib.Core.Bool.{Bool, true, false}
 use mathlib.Core.List.{List, [], _∷_}
@@ -11,40 +11,14 @@ use lib.IntN.{ℤ, pos}
 use lib.ListN.{length, getD, set, take, length-set}
 use lib.Seq.{ext-getD, getD-take, getD-set-same, getD-set-other, length-take-le}
 use Rattle.slots.specs.declared.Slot.{Slot}
-use Rattle.slots.specs.declared.Partner.{Partner}
-use Rattle.slots.specs.declared.Partner.the-variants.{Nobody, Id}
 use Rattle.slots.specs.Slots.{noSlot, idOf, idsOf}
 use Rattle.slots.proofs.Tables.{ids-long}
 use Rattle.slots.proofs.Faults.{id-at}
-use Rattle.columns.specs.declared.Cells.{Cells}
-use Rattle.columns.specs.Columns.{isSet, flagOf, partnerOf, knownOf, partnerId, slotOf, cellsOf, Within, cellsAt, numbersOf, put, slotsFrom, slotsOf}
+use Rattle.slot_cells.specs.declared.Cells.{Cells}
+use Rattle.slot_cells.specs.Cells.{slotOf, cellsOf}
+use Rattle.slot_cells.proofs.Back.{slot-back}
+use Rattle.columns.specs.Columns.{Within, cellsAt, numbersOf, put, slotsFrom, slotsOf}
 use Rattle.columns.proofs.Runs.{readAll, Fits, fits-up-to, all-long, all-other, all-same, all-back}
-
--- ---- a slot and its numbers
-flag-back : (b : Bool) → isSet (flagOf b) ≡ b
-flag-back true = refl
-flag-back false = refl
-
-partner-back : (p : Partner) → partnerOf (knownOf p) (partnerId p) ≡ p
-partner-back Nobody = refl
-partner-back (Id id) = refl
-
-pub slot-back : (x : Slot) → slotOf (cellsOf x) ≡ x
-unfolding slotOf cellsOf
-slot-back x =
-    let t = x .lifecycle in
-    λ i. record {
-      lifecycle = record {
-        «gt_id» = t .«gt_id»;
-        «first_frame» = t .«first_frame»;
-        «last_frame» = t .«last_frame»;
-        «tracked_frames» = t .«tracked_frames»;
-        «detected_frames» = t .«detected_frames»;
-        fragmentations = t .fragmentations;
-        «was_matched» = flag-back (t .«was_matched») i;
-      };
-      partner = partner-back (x .partner) i;
-    }
 
 -- ---- nine numbers in a run
 abbrev cellsIn : List ℤ → Cells

@@ -1,6 +1,6 @@
-// Ids and counters, i32 as the Rust has them: each test and each sum of them once.
+// Ids and counters, i32 as the Rust has them: each test and each sum of them once; a place as an index, and one test or another.
 ghost use mathlib.Core.Path.{_≡_};
-ghost use mathlib.Core.Bool.{true};
+ghost use mathlib.Core.Bool.{true, _||_};
 ghost use Prim.Native.Nat.{_≤_};
 ghost use lib.IntN.{pos, _+ℤ_};
 ghost use lib.Signed.{nonNeg};
@@ -47,4 +47,18 @@ pub fn one_if(happened: bool) -> usize
     ensures { λ r. ⌜ r ≡ oneIf happened ⌝ }
 {
     if happened { 1 } else { 0 }
+}
+
+// A place, kept narrow, as an index.
+pub fn wide(place: u32) -> usize
+    ensures { λ r. ⌜ r ≡ place ⌝ }
+{
+    place as usize
+}
+
+// Whether one of two things is so.
+pub fn either(a: bool, b: bool) -> bool
+    ensures { λ r. ⌜ r ≡ (a || b) ⌝ }
+{
+    if a { true } else { b }
 }

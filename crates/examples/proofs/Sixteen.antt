@@ -23,6 +23,7 @@ use Rattle.greedy_pairs.specs.Pairs.{byDistance, byShare}
 use Rattle.booking.specs.Booking.{eventsOf, logAfter}
 use Rattle.motmetrics.specs.State as module3
 use Rattle.motmetrics_update.specs.Update as update3
+use Rattle.sizes.specs.Sizes as sizes
 use Rattle.metrics.specs.State as module4
 use Rattle.metrics_update.specs.Update as update4
 use Rattle.evaluation.specs.Evaluation.{metricsOf, evaluatedOf}
@@ -44,7 +45,7 @@ module _ (o : Open) where
   numbered = refl
 
   pub sixteen : map (λ (r : Row). answerOf (r .asks)) (table o) ≡ map (λ (r : Row). r .says) (table o)
-  unfolding iouDistanceOf badBox distanceOf awayOf intersectionOf rectangleOf unionOf areaOf minOf maxOf ofInt add sub mul div lt le eq isNan neg isFinite updateMatchedOf updateMissedOf soundCounts roomToMatch roomToMiss fits matchedAfter missedAfter fragments classOf coverageOf shareOf update3.updateOf module3.soundState update3.frameAfter update3.shapeNo update3.bookOf bookedOf matchAll matchAt switchesOf seekFrom eventsOf logAfter byDistance pairingOf taken marked sortOf putAll put gather loop update4.updateOf module4.soundState idsSound hypothesesSound distinctOf update4.frameAfter shapeNo sizeNo fitNo update4.bookOf seenTruths seenHypotheses seenAll seenAt byShare tallyOf totalOf sumFrom plusEach motaOf recallOf ratioOf matrixOf rowOf iouShareOf sharedOf clampedOf quotientOf evaluatedOf metricsOf
+  unfolding iouDistanceOf badBox distanceOf awayOf intersectionOf rectangleOf unionOf areaOf minOf maxOf ofInt add sub mul div lt le eq isNan neg isFinite updateMatchedOf updateMissedOf soundCounts roomToMatch roomToMiss fits matchedAfter missedAfter fragments classOf coverageOf shareOf update3.updateOf module3.soundState update3.frameAfter sizes.shapeNo update3.bookOf bookedOf matchAll matchAt switchesOf seekFrom eventsOf logAfter byDistance pairingOf taken marked sortOf putAll put gather loop update4.updateOf module4.soundState idsSound hypothesesSound distinctOf update4.frameAfter shapeNo sizeNo fitNo update4.bookOf seenTruths seenHypotheses seenAll seenAt byShare tallyOf totalOf sumFrom plusEach motaOf recallOf ratioOf matrixOf rowOf iouShareOf sharedOf clampedOf quotientOf evaluatedOf metricsOf
   sixteen =
       also refl (also refl (also refl (also refl
       (also (ap assigned example-5) (also (ap assigned example-6) (also (ap assigned example-7) (also (ap assigned (example-8 (o .limit)))

@@ -13,7 +13,8 @@ use Rattle.lifecycle.specs.Lifecycle.{soundCounts}
 use Rattle.slots.specs.declared.Slot.{Slot}
 use Rattle.slots.specs.Slots.{noSlot, countsSound}
 use Rattle.slots.proofs.Tables.{count-bad, count-next}
-use Rattle.columns.specs.Columns.{slotOf, cellsAt, slotsOf}
+use Rattle.slot_cells.specs.Cells.{slotOf}
+use Rattle.columns.specs.Columns.{cellsAt, slotsOf}
 use Rattle.columns.proofs.Laws.{slots-long, slot-at}
 use Rattle.extended_flat.specs.Flat.{wholeOf}
 

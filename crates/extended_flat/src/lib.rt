@@ -23,7 +23,7 @@ fn counts_sound(run: &[i32], used: usize) -> bool
     let mut all = true;
     let mut i: usize = 0;
     while i < used {
-        let slot = columns::slot_of(columns::read(run, 256, i));
+        let slot = slot_cells::slot_of(columns::read(run, 256, i));
         let it = slot.lifecycle;
         if !it.sound() {
             all = false;

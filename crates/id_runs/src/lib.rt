@@ -1,4 +1,5 @@
 // Steps over lent runs of ids: whether ids find room, numbers written and cleared, the ids of a frame's pairs.
+use counts::wide;
 use ids::Lookup;
 ghost use mathlib.Core.Path.{_≡_};
 ghost use mathlib.Core.List.{[], _∷_, _++_};
@@ -63,12 +64,6 @@ pub fn clear(run: &mut [i32], from: usize, to: usize)
         run[k] = 0;
         k = k + 1;
     }
-}
-
-pub fn wide(k: u32) -> usize
-    ensures { λ r. ⌜ r ≡ k ⌝ }
-{
-    k as usize
 }
 
 // The three numbers at a place of the table, written over.

@@ -7,7 +7,8 @@ use lib.IntN.{ℤ, pos}
 use lib.ListN.{length, getD, replicate, length-replicate}
 use lib.Seq.{ext-getD}
 use Rattle.slots.specs.Slots.{noSlot}
-use Rattle.columns.specs.Columns.{slotOf, cellsAt, slotsOf}
+use Rattle.slot_cells.specs.Cells.{slotOf}
+use Rattle.columns.specs.Columns.{cellsAt, slotsOf}
 use Rattle.columns.proofs.Laws.{slots-long, slot-at}
 use Rattle.rows.specs.Rows.{newState}
 use Rattle.frame.specs.Frame.{stateWith, newTotals}

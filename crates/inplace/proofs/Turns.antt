@@ -12,8 +12,9 @@ use lib.ListN.{length, getD, set}
 use lib.Seq.{getD-set-same, getD-set-other}
 use Rattle.counts.specs.Counts.{oneIf}
 use Rattle.slots.specs.declared.Slot.{Slot}
-use Rattle.columns.specs.declared.Cells.{Cells}
-use Rattle.columns.specs.Columns.{cellsOf, Within, cellsAt, put, slotsOf}
+use Rattle.slot_cells.specs.declared.Cells.{Cells}
+use Rattle.slot_cells.specs.Cells.{cellsOf}
+use Rattle.columns.specs.Columns.{Within, cellsAt, put, slotsOf}
 use Rattle.columns.proofs.Laws.{put-long, at-same, at-other, put-back, slots-long, put-slot}
 use Rattle.rows.specs.declared.ExtendedMOTAccumulator.{ExtendedMOTAccumulator}
 use Rattle.rows.specs.declared.Row.{Row}

@@ -8,7 +8,8 @@ use lib.IntN.{ℤ, pos, _+ℤ_}
 use lib.ListN.{getD}
 use lib.Ieee.{Float}
 use Rattle.floats.specs.Float.{zero64}
-use Rattle.columns.specs.Columns.{cellsOf, cellsAt, put, slotsOf}
+use Rattle.slot_cells.specs.Cells.{cellsOf}
+use Rattle.columns.specs.Columns.{cellsAt, put, slotsOf}
 use Rattle.rows.specs.declared.ExtendedMOTAccumulator.{ExtendedMOTAccumulator}
 use Rattle.rows.specs.declared.Row.{Row}
 use Rattle.rows.specs.declared.Trial.{Trial}

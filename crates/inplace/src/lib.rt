@@ -65,11 +65,11 @@ fn book_rows(
         let old = columns::read(&run[..], 256, at);
         places[k] = at;
         columns::write(log, 64, k, old);
-        let p = rows::book_at(spot, columns::slot_of(old), used, row, frame);
-        columns::write(run, 256, at, columns::cells_of(p.slot));
+        let p = rows::book_at(spot, slot_cells::slot_of(old), used, row, frame);
+        columns::write(run, 256, at, slot_cells::cells_of(p.slot));
         t.used = p.used;
-        full = rows::either(full, p.full);
-        over = rows::either(over, p.over);
+        full = counts::either(full, p.full);
+        over = counts::either(over, p.over);
         switches = switches + counts::one_if(p.switched);
         k = k + 1;
     }

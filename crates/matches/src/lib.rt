@@ -1,6 +1,7 @@
 // The pairs of a frame, booked in the table of truth ids and their last partners: which of them are switches.
 // Ported from norfair-rs, internal/motmetrics/accumulator.rs, which follows py-motmetrics, and metrics/accumulator.rs
 // (NOTICE).
+use counts::wide;
 use ids::Lookup;
 use partners::Booked;
 use partners::Last;
@@ -10,12 +11,6 @@ ghost use mathlib.Core.Path.{_≡_};
 ghost use Prim.Native.Nat.{ℕ, _*_, _<_, _≤_};
 ghost use lib.ListN.{length, getD};
 ghost use Rattle.partners.specs.Partners.{truthsOf, lastIn, pairsOf, bookedOf};
-
-fn wide(k: u32) -> usize
-    ensures { λ r. ⌜ r ≡ k ⌝ }
-{
-    k as usize
-}
 
 // The last partner of an id that was looked up, where this one stands at its place.
 fn last_in(found: Lookup, last: Last) -> Partner

@@ -8,11 +8,11 @@ use lib.IntN.{ℤ}
 use lib.ListN.{length}
 use lib.Ieee.{Float}
 use Rattle.square.proofs.Truth.{and-left, and-right}
-use Rattle.sizes.specs.Sizes.{Long, logAndTable, lengthsNo}
+use Rattle.sizes.specs.Sizes.{Long, shapeNo, logAndTable, lengthsNo}
 use Rattle.sizes.proofs.Laws.{long as log-long, refuses}
 use Rattle.motmetrics.specs.State.{soundState}
 use Rattle.motmetrics_update.specs.declared.Updated.{Updated as After}
-use Rattle.motmetrics_update.specs.Update.{shapeNo, updateOf}
+use Rattle.motmetrics_update.specs.Update.{updateOf}
 use Rattle.motmetrics_update.proofs.Steps as steps
 use Rattle.motmetrics_update.proofs.Kept.{refused-keeps}
 use Rattle.motmetrics_in_place.specs.declared.Used.{Used}

@@ -8,11 +8,11 @@ use lib.Dec.{eqb}
 use lib.IntN.{ℤ}
 use lib.ListN.{length, getD}
 use lib.Ieee.{Float}
-use Rattle.sizes.specs.Sizes.{logAndTable, lengthsNo}
+use Rattle.sizes.specs.Sizes.{shapeNo, logAndTable, lengthsNo}
 use Rattle.greedy_pairs.specs.Pairs.{byDistance}
 use Rattle.motmetrics.specs.declared.MOTAccumulator.{MOTAccumulator}
 use Rattle.motmetrics_update.specs.declared.Updated.{Updated}
-use Rattle.motmetrics_update.specs.Update.{refusedAt, shapeNo, updateOf}
+use Rattle.motmetrics_update.specs.Update.{refusedAt, updateOf}
 use Rattle.motmetrics_in_place.specs.declared.Used.{Used}
 use Rattle.motmetrics_in_place.specs.declared.Closed.{Closed}
 use Rattle.motmetrics_in_place.specs.Updated.{Runs, stateOf, runsAfter, runsAt}

@@ -117,11 +117,7 @@ pub fn update(
     ensures { λ r. ⌜ Answered (runsOf (now (numbers .entry)) (now («log_distances» .entry)) (now (table .entry))) (now (used .entry)) «frame_id» (now («object_ids» .entry)) (now («hypothesis_ids» .entry)) (now (distances .entry)) (runsOf (now (numbers .exit)) (now («log_distances» .exit)) (now (table .exit))) (now (used .exit)) r ⌝ }
 {
     if !whole(numbers.len(), log_distances.len(), table.len(), used.len()) {
-        let shape = motmetrics_update::shape_no(
-            object_ids.len(),
-            hypothesis_ids.len(),
-            distances.len(),
-        );
+        let shape = sizes::shape_no(object_ids.len(), hypothesis_ids.len(), distances.len());
         return sizes::lengths_no(shape);
     }
     update_whole(

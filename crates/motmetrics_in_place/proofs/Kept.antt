@@ -18,7 +18,8 @@ use Rattle.booking.specs.Booking.{eventsOf, logAfter}
 use Rattle.truths_in_place.proofs.Room.{booked-few}
 use Rattle.motmetrics.specs.declared.MOTAccumulator.{MOTAccumulator}
 use Rattle.motmetrics_update.specs.declared.Updated.{Updated as After}
-use Rattle.motmetrics_update.specs.Update.{shapeNo, matchedBy, bookedWith, bookOf, frameAfter}
+use Rattle.sizes.specs.Sizes.{shapeNo}
+use Rattle.motmetrics_update.specs.Update.{matchedBy, bookedWith, bookOf, frameAfter}
 use Rattle.motmetrics_in_place.specs.declared.Used.{Used}
 use Rattle.motmetrics_in_place.specs.declared.Closed.{Closed}
 use Rattle.motmetrics_in_place.specs.Updated.{Runs, Updated}

@@ -22,7 +22,8 @@ use Rattle.booking_in_place.specs.Written.{numbersAfter, distancesAfter}
 use Rattle.booking_in_place.proofs.Events.{log-after}
 use Rattle.motmetrics.specs.declared.MOTAccumulator.{MOTAccumulator}
 use Rattle.motmetrics_update.specs.declared.Updated.{Updated as After}
-use Rattle.motmetrics_update.specs.Update.{shapeNo, matchedBy, bookOf}
+use Rattle.sizes.specs.Sizes.{shapeNo}
+use Rattle.motmetrics_update.specs.Update.{matchedBy, bookOf}
 use Rattle.motmetrics_update.proofs.Steps as steps
 use Rattle.motmetrics_in_place.specs.declared.Used.{Used}
 use Rattle.motmetrics_in_place.specs.declared.Closed.{Closed}

@@ -99,7 +99,7 @@ pub fn update_in_place(
 {
     let rows = object_ids.len();
     let columns = hypothesis_ids.len();
-    let number = motmetrics_update::shape_no(rows, columns, distances.len());
+    let number = sizes::shape_no(rows, columns, distances.len());
     if number != 0 {
         return Closed {
             number: number,

@@ -34,8 +34,10 @@ use Rattle.booking.proofs.Paired.{pair-event-at}
 use Rattle.metrics_laws.proofs.Meaning.{pairs, named-by-last}
 use Rattle.motmetrics.specs.declared.MOTAccumulator.{MOTAccumulator}
 use Rattle.motmetrics_update.specs.declared.Updated.{Updated}
-use Rattle.motmetrics_update.specs.Update.{refusedAt, closedAt, shapeNo, matchedBy, bookNo, bookedWith, bookOf, frameAfter}
-use Rattle.motmetrics_update.proofs.Steps.{Shaped, well-shaped, pairing-fits}
+use Rattle.motmetrics_update.specs.Update.{refusedAt, closedAt, matchedBy, bookNo, bookedWith, bookOf, frameAfter}
+use Rattle.motmetrics_update.proofs.Steps.{pairing-fits}
+use Rattle.sizes.specs.Sizes.{shapeNo}
+use Rattle.sizes.proofs.Shape.{Shaped, well-shaped}
 
 -- ---- number 0: a frame of its shape, a table and a log with room
 pub record Open (s : MOTAccumulator) (b : Booked) (es : List Event) (u : Updated) : Type 0 where

@@ -21,8 +21,9 @@ use Rattle.booking.specs.Booking.{eventsOf, logAfter}
 use Rattle.motmetrics.specs.declared.MOTAccumulator.{MOTAccumulator}
 use Rattle.motmetrics.specs.State.{soundState}
 use Rattle.motmetrics_update.specs.declared.Updated.{Updated}
-use Rattle.motmetrics_update.specs.Update.{refusedAt, closedAt, shapeNo, matchedBy, bookNo, bookOf, frameAfter, updateOf}
+use Rattle.motmetrics_update.specs.Update.{refusedAt, closedAt, matchedBy, bookNo, bookOf, frameAfter, updateOf}
 use Rattle.motmetrics_update.proofs.Kept.{closed-keeps}
+use Rattle.sizes.specs.Sizes.{shapeNo}
 
 closed-sound : (n : ℕ) (s next : MOTAccumulator) → soundState s ≡ true → (n ≡ 0 → soundState next ≡ true) → soundState (closedAt n s next .state) ≡ true
 closed-sound zero s next a f = f refl

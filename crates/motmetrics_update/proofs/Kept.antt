@@ -8,12 +8,13 @@ use lib.Dec.{eqb}
 use lib.IntN.{ℤ}
 use lib.ListN.{length}
 use lib.Ieee.{Float}
+use Rattle.sizes.specs.Sizes.{shapeNo}
 use Rattle.greedy.specs.declared.Pairing.{Pairing}
 use Rattle.greedy_pairs.specs.Pairs.{byDistance}
 use Rattle.motmetrics.specs.declared.MOTAccumulator.{MOTAccumulator}
 use Rattle.motmetrics.specs.State.{soundState}
 use Rattle.motmetrics_update.specs.declared.Updated.{Updated}
-use Rattle.motmetrics_update.specs.Update.{refusedAt, closedAt, shapeNo, bookOf, frameAfter, updateOf}
+use Rattle.motmetrics_update.specs.Update.{refusedAt, closedAt, bookOf, frameAfter, updateOf}
 
 pub closed-keeps : (n : ℕ) (s next : MOTAccumulator) → (n ≡ 0 → ⊥) → closedAt n s next .state ≡ s
 closed-keeps n s next h = rw (ne-eqb n 0 h) refl

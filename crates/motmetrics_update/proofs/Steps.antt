@@ -1,14 +1,15 @@
 -- The steps of the update, by the number that they answer. Assumes nothing.
 use mathlib.Core.Path.{_≡_, refl, sym, _∙_}
-use mathlib.Core.Bool.{Bool, true, false, cond}
+use mathlib.Core.Bool.{true, false}
 use mathlib.Core.List.{List}
 use Prim.Native.Nat.{ℕ, _+_, _*_, _-_, _<_, _≤_}
 use native.Mathlib.Omega.{arith}
-use borrow.Author.Tests.{lt-ltb, le-ltb, ltb-false, eq-eqb, ne-eqb, eqb-true}
-use lib.Dec.{ltb, eqb}
+use borrow.Author.Tests.{lt-ltb, le-ltb, ne-eqb}
 use lib.IntN.{ℤ}
 use lib.ListN.{length}
 use lib.Ieee.{Float}
+use Rattle.sizes.specs.Sizes.{shapeNo}
+use Rattle.sizes.proofs.Shape.{Shaped, well-shaped}
 use Rattle.events.specs.declared.Log.{Log}
 use Rattle.partners.specs.declared.Booked.{Booked}
 use Rattle.greedy.specs.declared.Pairing.{Pairing}
@@ -21,25 +22,7 @@ use Rattle.motmetrics.specs.declared.MOTAccumulator.{MOTAccumulator}
 use Rattle.motmetrics.specs.State.{soundState}
 use Rattle.motmetrics.proofs.Sound.{log-few, table-sound}
 use Rattle.motmetrics_update.specs.declared.Updated.{Updated}
-use Rattle.motmetrics_update.specs.Update.{refusedAt, shapeNo, matchedBy, bookOf, frameAfter, updateOf}
-
--- ---- the shape
-module _ (rows columns size : ℕ) where
-  pub many-rows : 64 < rows → 2 ≡ shapeNo rows columns size
-  unfolding shapeNo
-  many-rows h = rw (lt-ltb 64 rows h) refl
-
-  pub many-columns : rows ≤ 64 → 64 < columns → 2 ≡ shapeNo rows columns size
-  unfolding shapeNo
-  many-columns h g = rw (le-ltb 64 rows h, lt-ltb 64 columns g) refl
-
-  pub other-size : rows ≤ 64 → columns ≤ 64 → (size ≡ rows * columns → ⊥) → 3 ≡ shapeNo rows columns size
-  unfolding shapeNo
-  other-size h g k = rw (le-ltb 64 rows h, le-ltb 64 columns g, ne-eqb size (rows * columns) k) refl
-
-  pub fitting-size : rows ≤ 64 → columns ≤ 64 → size ≡ rows * columns → 0 ≡ shapeNo rows columns size
-  unfolding shapeNo
-  fitting-size h g e = rw (le-ltb 64 rows h, le-ltb 64 columns g, eq-eqb size (rows * columns) e) refl
+use Rattle.motmetrics_update.specs.Update.{refusedAt, matchedBy, bookOf, frameAfter, updateOf}
 
 -- ---- the booking
 module _ (s : MOTAccumulator) (frame : ℤ) (objects hypotheses : List ℤ) (distances : List Float) (p : Pairing) (f : Fitting (length objects) (length hypotheses) p)
@@ -62,21 +45,6 @@ module _ (s : MOTAccumulator) (frame : ℤ) (objects hypotheses : List ℤ) (dis
   all-booked log e h el = rw (el, ← eb, e, count-is, le-ltb 1024 (s .log .used + (length objects + length hypotheses - p .used)) h) refl
 
 -- ---- the frame
-pub record Shaped (rows columns size : ℕ) : Type 0 where
-  pub few-rows : rows ≤ 64
-  pub few-columns : columns ≤ 64
-  pub whole : size ≡ rows * columns
-
-pub well-shaped : (rows columns size : ℕ) → shapeNo rows columns size ≡ 0 → Shaped rows columns size
-unfolding shapeNo
-well-shaped rows columns size e = go (ltb 64 rows) (ltb 64 columns) (eqb size (rows * columns)) refl refl refl e
-  where
-    go : (a b c : Bool) → ltb 64 rows ≡ a → ltb 64 columns ≡ b → eqb size (rows * columns) ≡ c → _≡_ {A = ℕ} (cond a 2 (cond b 2 (cond c 0 3))) 0 → Shaped rows columns size
-    go false false true p q r e = record { few-rows = ltb-false 64 rows p; few-columns = ltb-false 64 columns q; whole = eqb-true size (rows * columns) r }
-    go true b c p q r e = absurd (omega arith)
-    go false true c p q r e = absurd (omega arith)
-    go false false false p q r e = absurd (omega arith)
-
 module _ (s : MOTAccumulator) (frame : ℤ) (objects hypotheses : List ℤ) (distances : List Float) where
   abbrev number : ℕ
   number = shapeNo (length objects) (length hypotheses) (length distances)

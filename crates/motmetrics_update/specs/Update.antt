@@ -1,11 +1,12 @@
 -- Document 01, "Lifecycles and events" and "Numbers given back": the update of module 3's MOTAccumulator, from any state and any frame.
 use mathlib.Core.Bool.{Bool, cond}
 use mathlib.Core.List.{List}
-use Prim.Native.Nat.{ℕ, _+_, _*_}
+use Prim.Native.Nat.{ℕ, _+_}
 use lib.Dec.{eqb, ltb}
 use lib.IntN.{ℤ}
 use lib.ListN.{length, take}
 use lib.Ieee.{Float}
+use Rattle.sizes.specs.Sizes.{shapeNo}
 use Rattle.events.specs.declared.Event.{Event}
 use Rattle.partners.specs.declared.Booked.{Booked}
 use Rattle.partners.specs.Partners.{pairsOf, bookedOf}
@@ -22,10 +23,6 @@ refusedAt number s = record { number = number; state = s }
 
 abbrev pub closedAt : ℕ → MOTAccumulator → MOTAccumulator → Updated
 closedAt number s next = record { number = number; state = cond (eqb number 0) next s }
-
--- 2: more than 64 ids on a side. 3: the matrix isn't rows times columns long
-unfoldable pub shapeNo : ℕ → ℕ → ℕ → ℕ
-shapeNo rows columns size = cond (ltb 64 rows) 2 (cond (ltb 64 columns) 2 (cond (eqb size (rows * columns)) 0 3))
 
 -- ---- a pairing, booked
 -- its pairs against the table of last matches, in their order

@@ -3,28 +3,12 @@
 use motmetrics::MOTAccumulator;
 ghost use mathlib.Core.Path.{_≡_};
 ghost use Prim.Native.Nat.{_≤_};
-ghost use Rattle.motmetrics_update.specs.Update.{shapeNo, frameAfter, updateOf};
+ghost use Rattle.motmetrics_update.specs.Update.{frameAfter, updateOf};
 
 // The number of an update, and the state: beside a refusal the one that came.
 pub struct Updated {
     pub number: u32,
     pub state: MOTAccumulator,
-}
-
-// 2 for too many ids on a side, 3 for distances that are not rows times columns.
-pub fn shape_no(rows: usize, columns: usize, size: usize) -> u32
-    ensures { λ r. ⌜ r ≡ shapeNo rows columns size ⌝ }
-{
-    if rows > 64 {
-        return 2;
-    }
-    if columns > 64 {
-        return 2;
-    }
-    if size != rows * columns {
-        return 3;
-    }
-    0
 }
 
 // The update of a state that is sound already: nothing of its table is tested again. Of soundness it needs the used counts alone.
@@ -41,7 +25,7 @@ pub fn update_sound(
 {
     let rows = object_ids.len();
     let columns = hypothesis_ids.len();
-    let number = shape_no(rows, columns, distances.len());
+    let number = sizes::shape_no(rows, columns, distances.len());
     if number != 0 {
         return Updated {
             number: number,

@@ -4,7 +4,6 @@ use ids::Lookup;
 use slots::Partner;
 use slots::Slot;
 ghost use mathlib.Core.Path.{_≡_};
-ghost use mathlib.Core.Bool.{_||_};
 ghost use Prim.Native.Nat.{_+_, _<_, _≤_};
 ghost use lib.ListN.{length};
 ghost use Rattle.rows.specs.Rows.{newState, Lies, rowAt, spotOf, stepOf};
@@ -100,12 +99,6 @@ pub fn row_at(
         id: gt_ids[i],
         to: Partner::Nobody,
     }
-}
-
-pub fn either(a: bool, b: bool) -> bool
-    ensures { λ r. ⌜ r ≡ (a || b) ⌝ }
-{
-    if a { true } else { b }
 }
 
 pub fn spot_of(found: Lookup, used: usize) -> Spot

@@ -1,8 +1,12 @@
--- The lengths of a state that is lent as runs of numbers. Definitions only.
+-- Document 01, "Numbers given back": the lengths of a frame of ids and distances; those of a state that is lent as runs of numbers. Definitions only.
 use mathlib.Core.Bool.{Bool, _&&_, cond}
 use mathlib.Core.Path.{_≡_}
-use Prim.Native.Nat.{ℕ}
-use lib.Dec.{eqb}
+use Prim.Native.Nat.{ℕ, _*_}
+use lib.Dec.{eqb, ltb}
+
+-- 2: more than 64 ids on a side. 3: the matrix isn't rows times columns long
+unfoldable pub shapeNo : ℕ → ℕ → ℕ → ℕ
+shapeNo rows columns size = cond (ltb 64 rows) 2 (cond (ltb 64 columns) 2 (cond (eqb size (rows * columns)) 0 3))
 
 -- the log's four columns and its distances, 1,024 places each, and the table's three columns of 256
 pub record Long (numbers distances table : ℕ) : Type 0 where

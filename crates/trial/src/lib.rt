@@ -1,9 +1,9 @@
 // The rows of a frame, booked in a table of slots on a copy of the state: what would come of the frame, before anything of it is kept.
 // Ported from norfair-rs, internal/motmetrics/accumulator.rs, which follows py-motmetrics (NOTICE).
+use counts::either;
 use rows::ExtendedMOTAccumulator;
 use rows::Trial;
 use rows::book_at;
-use rows::either;
 use rows::row_at;
 use rows::spot_of;
 ghost use mathlib.Core.Path.{_≡_};

@@ -5,7 +5,8 @@ use mathlib.Core.List.{List, [], _∷_}
 use Prim.Native.Nat.{ℕ, zero, suc, _+_}
 use lib.IntN.{ℤ, pos}
 use lib.ListN.{length, take}
-use Rattle.columns.specs.Columns.{partnerOf, cell, putAll}
+use Rattle.slot_cells.specs.Cells.{partnerOf}
+use Rattle.columns.specs.Columns.{cell, putAll}
 use Rattle.ids.specs.declared.Lookup.{Lookup}
 use Rattle.ids.specs.Ids.{seekOf}
 use Rattle.seen.specs.Seen.{over, placeOf, usedWith, seenAll}

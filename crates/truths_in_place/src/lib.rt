@@ -1,7 +1,7 @@
 // Truth ids with their last partners in a lent run of numbers: what it stands for, and the pairs of a frame booked there.
 // Ported from norfair-rs, internal/motmetrics/accumulator.rs, which follows py-motmetrics, and metrics/accumulator.rs (NOTICE).
+use counts::wide;
 use id_runs::put;
-use id_runs::wide;
 use ids::Lookup;
 ghost use mathlib.Core.Path.{_≡_};
 ghost use mathlib.Core.Bool.{false};
@@ -24,7 +24,7 @@ fn is_switch(found: Lookup, known: i32, partner: i32, to: i32) -> bool
     let Lookup::At(_) = found else {
         return false;
     };
-    slots::is_switch(columns::partner_of(known, partner), to)
+    slots::is_switch(slot_cells::partner_of(known, partner), to)
 }
 
 // The pairs of a frame, booked in their order.

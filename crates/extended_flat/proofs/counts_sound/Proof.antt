@@ -9,7 +9,8 @@ use lib.ListN.{length, take, drop, drop-of-length-le}
 use lib.Seq.{length-take-le}
 use Rattle.square.proofs.Truth.{and-true}
 use Rattle.slots.specs.Slots.{countsSound}
-use Rattle.columns.specs.Columns.{slotOf, slotsOf}
+use Rattle.slot_cells.specs.Cells.{slotOf}
+use Rattle.columns.specs.Columns.{slotsOf}
 use Rattle.columns.proofs.Laws.{within, slots-long}
 use Rattle.extended_flat.proofs.Laws.{turn-bad, turn-good}
 use borrow.Author.Needs.{needs}

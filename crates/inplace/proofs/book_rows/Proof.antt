@@ -14,7 +14,8 @@ use Rattle.slots.specs.declared.Slot.{Slot}
 use Rattle.ids.specs.declared.Lookup.{Lookup}
 use Rattle.ids.specs.Ids.{seekOf}
 use Rattle.slots.specs.Slots.{noSlot}
-use Rattle.columns.specs.Columns.{cellsOf, cellsAt, slotOf, put, Within}
+use Rattle.slot_cells.specs.Cells.{cellsOf, slotOf}
+use Rattle.columns.specs.Columns.{cellsAt, put, Within}
 use Rattle.columns.proofs.Laws.{put-long, slots-long, slot-at, within, ids-there}
 use Rattle.rows.specs.declared.Row.{Row}
 use Rattle.rows.specs.declared.Spot.{Spot}

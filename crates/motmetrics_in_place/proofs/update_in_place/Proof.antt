@@ -3,6 +3,7 @@ use mathlib.Core.Path.{sym, subst}
 use lib.ListN.{length}
 use mir.Facts.{toZ-ofZ}
 use Rattle.greedy.specs.Greedy.{Fitting}
+use Rattle.sizes.proofs.Shape.{Shaped}
 use Rattle.motmetrics_update.proofs.Steps as steps
 use Rattle.motmetrics_in_place.specs.Updated.{runsOf, stateOf}
 use Rattle.motmetrics_in_place.proofs.Ways as ways
@@ -12,7 +13,7 @@ use Rattle.motmetrics_in_place.proofs.update_in_place.Tie as tie
 
 -- the frame has its shape
 shape : (c : tie.Else1) → let a = c .before .before .before .before .args in
-    steps.Shaped (length (a .object-ids .now)) (length (a .hypothesis-ids .now)) (length (a .distances .now))
+    Shaped (length (a .object-ids .now)) (length (a .hypothesis-ids .now)) (length (a .distances .now))
 shape c =
     let a = c .before .before .before .before .args in
     steps.shape (stateOf (runsOf (a .numbers .now) (a .log-distances .now) (a .table .now)) (a .used)) (a .frame-id) (a .object-ids .now) (a .hypothesis-ids .now) (a .distances .now)

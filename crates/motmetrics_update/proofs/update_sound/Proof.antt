@@ -7,6 +7,7 @@ use mir.Facts.{toZ-ofZ}
 use Rattle.greedy.specs.Greedy.{Fitting}
 use Rattle.greedy.proofs.Pairings.{pairs-fit, pairs-long, pairs-inside}
 use Rattle.motmetrics_update.specs.Update.{bookOf, frameAfter}
+use Rattle.sizes.proofs.Shape.{Shaped}
 use Rattle.motmetrics_update.proofs.Steps as law
 use Rattle.motmetrics_update.proofs.update_sound.Statement.{statement}
 use Rattle.motmetrics_update.proofs.update_sound.Tie as tie
@@ -21,7 +22,7 @@ returns c =
 
 -- the frame has its shape
 shape : (c : tie.Else1) → let a = c .before .before .before .args in
-    law.Shaped (length (a .object-ids .now)) (length (a .hypothesis-ids .now)) (length (a .distances .now))
+    Shaped (length (a .object-ids .now)) (length (a .hypothesis-ids .now)) (length (a .distances .now))
 shape c =
     let a = c .before .before .before .args in
     law.shape (a .s) (a .frame-id) (a .object-ids .now) (a .hypothesis-ids .now) (a .distances .now) (c .before .shape-no .result) (c .before .shape-no .ensures) (c .if1 .left)

@@ -1,7 +1,7 @@
 -- `truths_in_place::is_switch` meets its contract. Assumes nothing.
 use mathlib.Core.Path.{_∙_}
 use mir.Facts.{toZ-ofZ}
-use Rattle.columns.specs.Columns.{partnerOf}
+use Rattle.slot_cells.specs.Cells.{partnerOf}
 use Rattle.slots.specs.Slots.{switches}
 use borrow.Author.Needs.{needs}
 use Rattle.truths_in_place.proofs.is_switch.Statement.{statement}

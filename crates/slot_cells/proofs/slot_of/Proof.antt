@@ -1,10 +1,10 @@
--- `columns::slot_of` meets its contract. Assumes nothing.
+-- `slot_cells::slot_of` meets its contract. Assumes nothing.
 use mathlib.Core.Path.{_∙_}
 use Rattle.counts.proofs.Ids.{back, told}
-use Rattle.columns.specs.Columns.{isSet, partnerOf, slotOf}
+use Rattle.slot_cells.specs.Cells.{isSet, partnerOf, slotOf}
 use borrow.Author.Needs.{needs}
-use Rattle.columns.proofs.slot_of.Statement.{statement}
-use Rattle.columns.proofs.slot_of.Tie as tie
+use Rattle.slot_cells.proofs.slot_of.Statement.{statement}
+use Rattle.slot_cells.proofs.slot_of.Tie as tie
 
 is-set-requires : tie.Need-is-set-requires
 is-set-requires c κs = search needs

@@ -1,9 +1,9 @@
--- `columns::partner_id` meets its contract. Assumes nothing.
+-- `slot_cells::partner_id` meets its contract. Assumes nothing.
 use mathlib.Core.Path.{_∙_}
 use Rattle.counts.proofs.Ids.{back}
 use borrow.Author.Needs.{needs}
-use Rattle.columns.proofs.partner_id.Statement.{statement}
-use Rattle.columns.proofs.partner_id.Tie as tie
+use Rattle.slot_cells.proofs.partner_id.Statement.{statement}
+use Rattle.slot_cells.proofs.partner_id.Tie as tie
 
 enum-told : tie.Need-enum-told
 enum-told c = search needs

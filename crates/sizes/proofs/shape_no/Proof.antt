@@ -1,11 +1,11 @@
--- `motmetrics_update::shape_no` meets its contract. Assumes nothing.
+-- `sizes::shape_no` meets its contract. Assumes nothing.
 use mathlib.Core.Path.{_≡_}
 use Prim.Native.Nat.{_*_, _≤_}
 use native.Mathlib.Omega.{arith}
 use native.Mathlib.Nat.{mul-le-mul}
-use Rattle.motmetrics_update.proofs.Steps as law
-use Rattle.motmetrics_update.proofs.shape_no.Statement.{statement}
-use Rattle.motmetrics_update.proofs.shape_no.Tie as tie
+use Rattle.sizes.proofs.Shape as law
+use Rattle.sizes.proofs.shape_no.Statement.{statement}
+use Rattle.sizes.proofs.shape_no.Tie as tie
 
 returns : tie.Need-returns
 returns c = let a = c .before .args in law.many-rows (a .rows) (a .columns) (a .size) (c .if1 .taken)

@@ -1,6 +1,6 @@
--- `columns::flag_of` meets its contract. Assumes nothing.
-use Rattle.columns.proofs.flag_of.Statement.{statement}
-use Rattle.columns.proofs.flag_of.Tie as tie
+-- `slot_cells::flag_of` meets its contract. Assumes nothing.
+use Rattle.slot_cells.proofs.flag_of.Statement.{statement}
+use Rattle.slot_cells.proofs.flag_of.Tie as tie
 
 returns : tie.Need-returns
 returns c = rw (c .if1 .taken)

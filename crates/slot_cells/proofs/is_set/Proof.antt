@@ -1,10 +1,10 @@
--- `columns::is_set` meets its contract. Assumes nothing.
+-- `slot_cells::is_set` meets its contract. Assumes nothing.
 use mathlib.Core.Path.{ap, _∙_}
 use mathlib.Core.Bool.{not}
 use mir.Facts.{toZ-ofZ}
 use borrow.Author.Needs.{needs}
-use Rattle.columns.proofs.is_set.Statement.{statement}
-use Rattle.columns.proofs.is_set.Tie as tie
+use Rattle.slot_cells.proofs.is_set.Statement.{statement}
+use Rattle.slot_cells.proofs.is_set.Tie as tie
 
 same-id-requires : tie.Need-same-id-requires
 same-id-requires c κs = search needs

@@ -1,9 +1,9 @@
--- `columns::partner_of` meets its contract. Assumes nothing.
+-- `slot_cells::partner_of` meets its contract. Assumes nothing.
 use mathlib.Core.Path.{sym, _∙_}
 use mir.Facts.{toZ-ofZ}
 use borrow.Author.Needs.{needs}
-use Rattle.columns.proofs.partner_of.Statement.{statement}
-use Rattle.columns.proofs.partner_of.Tie as tie
+use Rattle.slot_cells.proofs.partner_of.Statement.{statement}
+use Rattle.slot_cells.proofs.partner_of.Tie as tie
 
 is-set-requires : tie.Need-is-set-requires
 is-set-requires c κs = search needs

@@ -1,10 +1,10 @@
--- `columns::cells_of` meets its contract. Assumes nothing.
+-- `slot_cells::cells_of` meets its contract. Assumes nothing.
 use mathlib.Core.Path.{_∙_}
 use Rattle.counts.proofs.Ids.{back}
-use Rattle.columns.specs.Columns.{cellsOf}
+use Rattle.slot_cells.specs.Cells.{cellsOf}
 use borrow.Author.Needs.{needs}
-use Rattle.columns.proofs.cells_of.Statement.{statement}
-use Rattle.columns.proofs.cells_of.Tie as tie
+use Rattle.slot_cells.proofs.cells_of.Statement.{statement}
+use Rattle.slot_cells.proofs.cells_of.Tie as tie
 
 flag-of-requires : tie.Need-flag-of-requires
 flag-of-requires c κs = search needs

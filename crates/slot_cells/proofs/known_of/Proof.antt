@@ -1,7 +1,7 @@
--- `columns::known_of` meets its contract. Assumes nothing.
+-- `slot_cells::known_of` meets its contract. Assumes nothing.
 use borrow.Author.Needs.{needs}
-use Rattle.columns.proofs.known_of.Statement.{statement}
-use Rattle.columns.proofs.known_of.Tie as tie
+use Rattle.slot_cells.proofs.known_of.Statement.{statement}
+use Rattle.slot_cells.proofs.known_of.Tie as tie
 
 enum-told : tie.Need-enum-told
 enum-told c = search needs
