@@ -1,4 +1,5 @@
-//! What crates/mot_c, crates/extended_c, crates/motmetrics_c, crates/metrics_c and crates/bench_c export. A slice goes over as a pointer and a length.
+//! What crates/mot_c, crates/extended_c, crates/motmetrics_c, crates/metrics_c, crates/lifecycle_in_place, crates/bench_c and
+//! crates/bench_calls export. A slice goes over as a pointer and a length.
 
 extern "C" {
     fn mot_compute_iou_distance_matrix(
@@ -80,6 +81,30 @@ extern "C" {
         ids: *const i32, ids_len: usize, hyp_ids: *const i32, hyp_ids_len: usize, truth: *const f64, truth_len: usize,
         predicted: *const f64, predicted_len: usize, threshold: f64, frames: u64, times: u64, whole: bool,
     ) -> f64;
+    fn bench_counts(
+        ids: *const i32, ids_len: usize, hyp_ids: *const i32, hyp_ids_len: usize, truth: *const f64, truth_len: usize,
+        predicted: *const f64, predicted_len: usize, threshold: f64, frames: u64, times: u64, all: bool,
+    ) -> f64;
+    fn bench_assignment(
+        cost: *const f64, cost_len: usize, rows: usize, cols: usize, max_cost: f64, place: usize,
+    ) -> usize;
+    fn bench_new_extended(place: usize, times: u64) -> i32;
+    fn bench_new_mot(place: usize, times: u64) -> i32;
+    fn bench_new_metrics(place: usize, times: u64) -> i32;
+    fn update_matched_in(it: *mut TrackLifecycle, frame: i32) -> u32;
+    fn update_missed_in(it: *mut TrackLifecycle, frame: i32) -> u32;
+}
+
+/// The port's record of a truth object.
+#[repr(C)]
+pub struct TrackLifecycle {
+    pub gt_id: i32,
+    pub first_frame: i32,
+    pub last_frame: i32,
+    pub tracked_frames: i32,
+    pub detected_frames: i32,
+    pub fragmentations: i32,
+    pub was_matched: bool,
 }
 
 /// Which of the port's updates.
@@ -361,4 +386,46 @@ pub fn scores(
 pub fn pair_by_distance(distances: &[f64], side: usize) -> usize {
     // SAFETY: as above
     unsafe { bench_pair_by_distance(distances.as_ptr(), distances.len(), side, side) }
+}
+
+/// Module 4's matches by count_events, or all six counts, of a state after so many frames, so many times; how often one was above 0.
+pub fn counts(ids: &[i32], truth: &[f64], predicted: &[f64], threshold: f64, frames: u64, times: u64, all: bool) -> f64 {
+    // SAFETY: as above
+    unsafe {
+        bench_counts(
+            ids.as_ptr(), ids.len(), ids.as_ptr(), ids.len(), truth.as_ptr(), truth.len(), predicted.as_ptr(),
+            predicted.len(), threshold, frames, times, all,
+        )
+    }
+}
+
+/// The search by value; what it says of a place of its lists.
+pub fn assignment_by_value(cost: &[f64], rows: usize, cols: usize, max_cost: f64, place: usize) -> usize {
+    // SAFETY: as above
+    unsafe { bench_assignment(cost.as_ptr(), cost.len(), rows, cols, max_cost, place) }
+}
+
+/// New states, so many: the extended accumulator's, module 3's, module 4's. What the last holds at a place.
+pub fn new_states(place: usize, times: u64) -> [(&'static str, Box<dyn FnMut() -> i32>); 3] {
+    // SAFETY: as above
+    [
+        ("ExtendedMOTAccumulator::new", Box::new(move || unsafe { bench_new_extended(place, times) })),
+        ("motmetrics: MOTAccumulator::new", Box::new(move || unsafe { bench_new_mot(place, times) })),
+        ("metrics: MOTAccumulator::new", Box::new(move || unsafe { bench_new_metrics(place, times) })),
+    ]
+}
+
+/// The record after so many matches and misses, one after the other, where it stands.
+pub fn lent_lifecycle(frame: i32, times: u64) -> TrackLifecycle {
+    let mut it = TrackLifecycle {
+        gt_id: 1, first_frame: frame, last_frame: frame, tracked_frames: 0, detected_frames: 0, fragmentations: 0, was_matched: false,
+    };
+    for _ in 0..times {
+        // SAFETY: the callee demands nothing, and reads and writes the record alone
+        unsafe {
+            update_matched_in(&mut it, frame);
+            update_missed_in(&mut it, frame);
+        }
+    }
+    it
 }

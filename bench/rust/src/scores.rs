@@ -1,10 +1,10 @@
-//! The lifecycles, and the metrics of a state, many times: one of them is over in nanoseconds.
+//! The lifecycles, new states, and the metrics and counts of a state, many times: one of them is over in nanoseconds.
 
 use crate::{extended, extended::Frame, mot::frames, port, rounds::row};
 use nalgebra::DMatrix;
 use norfair::internal::motmetrics::accumulator::{self as inner, ExtendedMOTAccumulator, TrackLifecycle};
 use norfair::internal::motmetrics::iou::compute_iou_distance_matrix;
-use norfair::metrics::accumulator::MOTAccumulator;
+use norfair::metrics::accumulator::{MOTAccumulator, MOTEventType};
 use norfair::metrics::evaluation::MOTMetrics;
 use std::hint::black_box;
 
@@ -24,7 +24,37 @@ fn lifecycles() {
     };
     let port = || port::lifecycles(black_box(7), TIMES);
     assert_eq!(rust(), port());
-    row("matched, missed, coverage", &format!("{TIMES} times"), &mut || { black_box(rust()); }, &mut || { black_box(port()); });
+    row("TrackLifecycle: new, then matched, missed, coverage", &format!("{TIMES} times"), &mut || { black_box(rust()); }, &mut || { black_box(port()); });
+}
+
+/// The same record changed where it stands: the Rust's is kept in memory, as in its map.
+fn lent_lifecycles() {
+    let rust = || {
+        let mut it = TrackLifecycle::new(1, 7);
+        for _ in 0..TIMES {
+            black_box(&mut it).update_matched(black_box(7));
+            black_box(&mut it).update_missed(black_box(7));
+        }
+        [it.tracked_frames, it.detected_frames, it.fragmentations]
+    };
+    let port = || {
+        let it = port::lent_lifecycle(black_box(7), TIMES);
+        [it.tracked_frames, it.detected_frames, it.fragmentations]
+    };
+    assert_eq!(rust(), port());
+    row("update_matched_in, update_missed_in", &format!("{TIMES} times"), &mut || { black_box(rust()); }, &mut || { black_box(port()); });
+}
+
+fn new_states() {
+    let rust: [fn(); 3] = [
+        || drop(black_box(ExtendedMOTAccumulator::new(black_box("")))),
+        || drop(black_box(inner::MOTAccumulator::new())),
+        || drop(black_box(MOTAccumulator::new())),
+    ];
+    for ((name, mut port), rust) in port::new_states(black_box(0), TIMES).into_iter().zip(rust) {
+        assert_eq!(port(), 0);
+        row(name, &format!("{TIMES} times"), &mut || (0..TIMES).for_each(|_| rust()), &mut || { black_box(port()); });
+    }
 }
 
 fn rows_of(run: &[f64]) -> Vec<Vec<f64>> {
@@ -65,10 +95,25 @@ fn logged(side: usize, frame: &Frame) {
     let rust = || (0..TIMES).map(|_| MOTMetrics::from_accumulator(black_box(&state)).mota).sum::<f64>();
     assert_eq!(rust(), port(true));
     row("MOTMetrics::from_accumulator", &size, &mut || { black_box(rust()); }, &mut || { black_box(port(true)); });
+
+    let port = |all| port::counts(&frame.ids, &frame.truth, black_box(&frame.predicted), 0.5, times, TIMES, all);
+    let some = |count: usize| if count > 0 { 1.0 } else { 0.0 };
+    let rust = || (0..TIMES).map(|_| some(black_box(&state).count_events(MOTEventType::Match))).sum::<f64>();
+    assert_eq!(rust(), port(false));
+    row("metrics: count_events", &size, &mut || { black_box(rust()); }, &mut || { black_box(port(false)); });
+    let six = |it: &MOTAccumulator| {
+        some(it.num_matches()) + some(it.num_false_positives()) + some(it.num_misses()) + some(it.num_switches())
+            + some(it.num_gt_ids()) + some(it.num_hyp_ids())
+    };
+    let rust = || (0..TIMES).map(|_| six(black_box(&state))).sum::<f64>();
+    assert_eq!(rust(), port(true));
+    row("metrics: num_matches to num_hyp_ids", &size, &mut || { black_box(rust()); }, &mut || { black_box(port(true)); });
 }
 
 pub fn bench() {
     lifecycles();
+    lent_lifecycles();
+    new_states();
     for side in [5, 20, 64] {
         let frame = extended::tracking(side);
         extended_metrics(side, &frame);

@@ -42,20 +42,34 @@ fn assert_same(rows: &[Vec<f64>], run: &[f64], size: usize) {
     assert_eq!(pairs, flat);
     assert_eq!(rust.unmatched_rows, out[133..133 + out[1]]);
     assert_eq!(rust.unmatched_cols, out[197..197 + out[2]]);
+    let at = |list: &[usize], place: usize| list.get(place).copied().unwrap_or(0);
+    for place in 0..64 {
+        let (row, col) = pairs.get(place).copied().unwrap_or((0, 0));
+        let told = if at(&rust.unmatched_rows, place) > 0 {
+            rust.unmatched_rows.len()
+        } else if at(&rust.unmatched_cols, place) > 0 {
+            rust.unmatched_cols.len()
+        } else if row > place {
+            pairs.len()
+        } else {
+            col
+        };
+        assert_eq!(told, port::assignment_by_value(run, size, size, MAX_COST, place));
+    }
 }
 
 fn case(kind: &str, size: usize, run: &[f64]) {
     let rows: Vec<Vec<f64>> = run.chunks(size).map(<[f64]>::to_vec).collect();
     assert_same(&rows, run, size);
     let mut out = [0; port::FLAT];
-    row(
-        "mot_linear_sum_assignment",
-        &format!("{size} by {size}, {kind}"),
-        &mut || drop(black_box(linear_sum_assignment(black_box(&rows), MAX_COST))),
-        &mut || {
-            black_box(port::linear_sum_assignment(black_box(run), size, size, MAX_COST, black_box(&mut out)));
-        },
-    );
+    let label = format!("{size} by {size}, {kind}");
+    let mut rust = || drop(black_box(linear_sum_assignment(black_box(&rows), MAX_COST)));
+    row("mot_linear_sum_assignment", &label, &mut rust, &mut || {
+        black_box(port::linear_sum_assignment(black_box(run), size, size, MAX_COST, black_box(&mut out)));
+    });
+    row("optimize::linear_sum_assignment", &label, &mut rust, &mut || {
+        black_box(port::assignment_by_value(black_box(run), size, size, MAX_COST, black_box(0)));
+    });
 }
 
 pub fn bench() {

@@ -1,5 +1,4 @@
 // Updates for bench/run, made one after the other on this side of the border, where the state stays.
-mod calls;
 mod metric_updates;
 mod mot;
 

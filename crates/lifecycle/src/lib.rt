@@ -7,6 +7,7 @@ ghost use Rattle.lifecycle.specs.Lifecycle.{updateMatchedOf, updateMisse
 use lifecycle_parts::fragments;
 use lifecycle_parts::share_of;
 
+#[repr(C)]
 pub struct TrackLifecycle {
     pub gt_id: i32,
     pub first_frame: i32,

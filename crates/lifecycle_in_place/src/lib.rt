@@ -6,7 +6,8 @@ ghost use Rattle.lifecycle_in_place.specs.InPlace.{answer};
 use lifecycle::TrackLifecycle;
 
 // The object is matched in a frame. The answer is the number; beside a refusal the record stays.
-pub fn update_matched_in(it: &mut TrackLifecycle, frame: i32) -> u32
+#[no_mangle]
+pub extern "C" fn update_matched_in(it: &mut TrackLifecycle, frame: i32) -> u32
     ensures { λ r. ⌜ answer r (now (it .exit)) ≡ updateMatchedOf (now (it .entry)) frame ⌝ }
 {
     let old = *it;
@@ -16,7 +17,8 @@ pub fn update_matched_in(it: &mut TrackLifecycle, frame: i32) -> u32
 }
 
 // The object is missed in a frame. The answer is the number; beside a refusal the record stays.
-pub fn update_missed_in(it: &mut TrackLifecycle, frame: i32) -> u32
+#[no_mangle]
+pub extern "C" fn update_missed_in(it: &mut TrackLifecycle, frame: i32) -> u32
     ensures { λ r. ⌜ answer r (now (it .exit)) ≡ updateMissedOf (now (it .entry)) frame ⌝ }
 {
     let old = *it;

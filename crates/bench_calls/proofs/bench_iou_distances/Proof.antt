@@ -1,7 +1,7 @@
--- `bench_c::calls::bench_iou_distances` is safe and ends. Assumes nothing.
+-- `bench_calls::bench_iou_distances` is safe and ends. Assumes nothing.
 use borrow.Author.Needs.{needs}
-use Rattle.bench_c.proofs.calls.bench_iou_distances.Statement.{statement}
-use Rattle.bench_c.proofs.calls.bench_iou_distances.Tie as tie
+use Rattle.bench_calls.proofs.bench_iou_distances.Statement.{statement}
+use Rattle.bench_calls.proofs.bench_iou_distances.Tie as tie
 
 abbrev Inv-loop : tie.InvT-loop
 Inv-loop boxes times total₀ left₀ total left = Unit {0}

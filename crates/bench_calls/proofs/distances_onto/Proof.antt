@@ -1,8 +1,8 @@
--- `bench_c::calls::distances_onto` is safe and ends. Assumes nothing.
+-- `bench_calls::distances_onto` is safe and ends. Assumes nothing.
 use Prim.Native.Nat.{_-_}
 use borrow.Author.Needs.{needs}
-use Rattle.bench_c.proofs.calls.distances_onto.Statement.{statement}
-use Rattle.bench_c.proofs.calls.distances_onto.Tie as tie
+use Rattle.bench_calls.proofs.distances_onto.Statement.{statement}
+use Rattle.bench_calls.proofs.distances_onto.Tie as tie
 
 abbrev Inv-loop : tie.InvT-loop
 Inv-loop sum boxes count total₀ i₀ total i = Unit {0}

@@ -1,7 +1,7 @@
--- `bench_c::calls::bench_extended_metrics` is safe and ends. Assumes nothing.
+-- `bench_calls::bench_extended_metrics` is safe and ends. Assumes nothing.
 use borrow.Author.Needs.{needs}
-use Rattle.bench_c.proofs.calls.bench_extended_metrics.Statement.{statement}
-use Rattle.bench_c.proofs.calls.bench_extended_metrics.Tie as tie
+use Rattle.bench_calls.proofs.bench_extended_metrics.Statement.{statement}
+use Rattle.bench_calls.proofs.bench_extended_metrics.Tie as tie
 
 abbrev Inv-loop : tie.InvT-loop
 Inv-loop gt-ids gt-bboxes pred-ids pred-bboxes threshold times s good₀ left₀ good left = Unit {0}

@@ -1,19 +1,19 @@
--- `bench_c::calls::bench_scores` is safe and ends. Assumes nothing.
+-- `bench_calls::bench_mot_metrics` is safe and ends. Assumes nothing.
 use borrow.Author.Needs.{needs}
-use Rattle.bench_c.proofs.calls.bench_scores.Statement.{statement}
-use Rattle.bench_c.proofs.calls.bench_scores.Tie as tie
+use Rattle.bench_calls.proofs.bench_mot_metrics.Statement.{statement}
+use Rattle.bench_calls.proofs.bench_mot_metrics.Tie as tie
 
 abbrev Inv-loop : tie.InvT-loop
-Inv-loop gt-ids hyp-ids gt-boxes hyp-boxes iou-threshold frames times whole s₀ more₀ s more = Unit {0}
+Inv-loop object-ids hypothesis-ids distances frames times s₀ more₀ s more = Unit {0}
 
 abbrev μ-loop : tie.MeasureT-loop
-μ-loop gt-ids hyp-ids gt-boxes hyp-boxes iou-threshold frames times whole s₀ more₀ s more = more
+μ-loop object-ids hypothesis-ids distances frames times s₀ more₀ s more = more
 
 abbrev Inv-loop2 : tie.InvT-loop2
-Inv-loop2 gt-ids hyp-ids gt-boxes hyp-boxes iou-threshold frames times whole s more total₀ left₀ total left = Unit {0}
+Inv-loop2 object-ids hypothesis-ids distances frames times s more total₀ left₀ total left = Unit {0}
 
 abbrev μ-loop2 : tie.MeasureT-loop2
-μ-loop2 gt-ids hyp-ids gt-boxes hyp-boxes iou-threshold frames times whole s more total₀ left₀ total left = left
+μ-loop2 object-ids hypothesis-ids distances frames times s more total₀ left₀ total left = left
 
 new-requires : tie.Need-new-requires Inv-loop μ-loop Inv-loop2 μ-loop2
 new-requires c κs = search needs
@@ -36,14 +36,8 @@ loop-again c = search needs
 loop2-holds : tie.Need-loop2-holds Inv-loop μ-loop Inv-loop2 μ-loop2
 loop2-holds c = search needs
 
-from-accumulator-requires : tie.Need-from-accumulator-requires Inv-loop μ-loop Inv-loop2 μ-loop2
-from-accumulator-requires c κs = search needs
-
-mota-requires : tie.Need-mota-requires Inv-loop μ-loop Inv-loop2 μ-loop2
-mota-requires c κs = search needs
-
-motp-requires : tie.Need-motp-requires Inv-loop μ-loop Inv-loop2 μ-loop2
-motp-requires c κs = search needs
+compute-metrics-requires : tie.Need-compute-metrics-requires Inv-loop μ-loop Inv-loop2 μ-loop2
+compute-metrics-requires c κs = search needs
 
 sub-left : tie.Need-sub-left Inv-loop μ-loop Inv-loop2 μ-loop2
 sub-left c = search needs
@@ -57,8 +51,8 @@ loop2-again c = search needs
 returns : tie.Need-returns Inv-loop μ-loop Inv-loop2 μ-loop2
 returns c = search needs
 
-pub bench-scores-spec : {M : Type 1} → statement M
-bench-scores-spec =
+pub bench-mot-metrics-spec : {M : Type 1} → statement M
+bench-mot-metrics-spec =
     tie.close
     (tie.spec
     Inv-loop
@@ -72,9 +66,7 @@ bench-scores-spec =
     loop-less
     loop-again
     loop2-holds
-    from-accumulator-requires
-    mota-requires
-    motp-requires
+    compute-metrics-requires
     sub-left
     loop2-less
     loop2-again

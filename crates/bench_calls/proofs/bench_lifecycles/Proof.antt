@@ -1,7 +1,7 @@
--- `bench_c::calls::bench_lifecycles` is safe and ends. Assumes nothing.
+-- `bench_calls::bench_lifecycles` is safe and ends. Assumes nothing.
 use borrow.Author.Needs.{needs}
-use Rattle.bench_c.proofs.calls.bench_lifecycles.Statement.{statement}
-use Rattle.bench_c.proofs.calls.bench_lifecycles.Tie as tie
+use Rattle.bench_calls.proofs.bench_lifecycles.Statement.{statement}
+use Rattle.bench_calls.proofs.bench_lifecycles.Tie as tie
 
 abbrev Inv-loop : tie.InvT-loop
 Inv-loop frame times it₀ total₀ left₀ it total left = Unit {0}
