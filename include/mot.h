@@ -1,5 +1,6 @@
 /* The port for C. The matrices and the solver are in the archive of crates/mot_c, the accumulators in those of
- * crates/extended_c, crates/motmetrics_c and crates/metrics_c. Each stands alone: link those that you call.
+ * crates/extended_c, crates/motmetrics_c and crates/metrics_c, a lifecycle by itself in that of crates/lifecycle_in_place.
+ * Each stands alone: link those that you call.
  *
  * A slice is a pointer and the number of its elements. A length of 0 goes with any pointer that is not null and is aligned.
  * Lent memory that is written must not overlap any other argument of the call.
@@ -21,6 +22,7 @@
 #ifndef MOT_H
 #define MOT_H
 
+#include <stdbool.h>
 #include <stddef.h>
 #include <stdint.h>
 
@@ -60,6 +62,23 @@ enum {
 uint32_t mot_linear_sum_assignment(const double *cost, size_t cost_len,
                                    size_t rows, size_t cols, double max_cost,
                                    size_t *out, size_t out_len);
+
+/* ---- the lifecycle of a truth object, by itself */
+
+struct mot_track_lifecycle {
+    int32_t gt_id;
+    int32_t first_frame;
+    int32_t last_frame;
+    int32_t tracked_frames;  /* those in which it was matched */
+    int32_t detected_frames; /* all in which it was there */
+    int32_t fragmentations;  /* how often it was matched again after a miss */
+    bool was_matched;        /* false or true, and no other byte */
+};
+
+/* The object is matched in a frame, or missed. A new record has its id, the frame as first and last, and zeros.
+ * Numbers 0, 1 (a count is negative), 7. */
+uint32_t mot_update_matched(struct mot_track_lifecycle *it, int32_t frame);
+uint32_t mot_update_missed(struct mot_track_lifecycle *it, int32_t frame);
 
 /* ---- the extended accumulator
  * Its state is three runs that the caller keeps. All zeros are a new state. */

@@ -91,8 +91,8 @@ extern "C" {
     fn bench_new_extended(place: usize, times: u64) -> i32;
     fn bench_new_mot(place: usize, times: u64) -> i32;
     fn bench_new_metrics(place: usize, times: u64) -> i32;
-    fn update_matched_in(it: *mut TrackLifecycle, frame: i32) -> u32;
-    fn update_missed_in(it: *mut TrackLifecycle, frame: i32) -> u32;
+    fn mot_update_matched(it: *mut TrackLifecycle, frame: i32) -> u32;
+    fn mot_update_missed(it: *mut TrackLifecycle, frame: i32) -> u32;
 }
 
 /// The port's record of a truth object.
@@ -421,11 +421,15 @@ pub fn lent_lifecycle(frame: i32, times: u64) -> TrackLifecycle {
         gt_id: 1, first_frame: frame, last_frame: frame, tracked_frames: 0, detected_frames: 0, fragmentations: 0, was_matched: false,
     };
     for _ in 0..times {
-        // SAFETY: the callee demands nothing, and reads and writes the record alone
-        unsafe {
-            update_matched_in(&mut it, frame);
-            update_missed_in(&mut it, frame);
-        }
+        update_lifecycle(&mut it, frame, true);
+        update_lifecycle(&mut it, frame, false);
     }
     it
+}
+
+/// A match or a miss of a record, where it stands.
+#[inline(always)]
+pub fn update_lifecycle(it: &mut TrackLifecycle, frame: i32, matched: bool) -> u32 {
+    // SAFETY: the callee demands nothing, and reads and writes the record alone
+    unsafe { if matched { mot_update_matched(it, frame) } else { mot_update_missed(it, frame) } }
 }

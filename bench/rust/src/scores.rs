@@ -42,7 +42,7 @@ fn lent_lifecycles() {
         [it.tracked_frames, it.detected_frames, it.fragmentations]
     };
     assert_eq!(rust(), port());
-    row("update_matched_in, update_missed_in", &format!("{TIMES} times"), &mut || { black_box(rust()); }, &mut || { black_box(port()); });
+    row("mot_update_matched, mot_update_missed", &format!("{TIMES} times"), &mut || { black_box(rust()); }, &mut || { black_box(port()); });
 }
 
 fn new_states() {

@@ -7,7 +7,7 @@ use lifecycle::TrackLifecycle;
 
 // The object is matched in a frame. The answer is the number; beside a refusal the record stays.
 #[no_mangle]
-pub extern "C" fn update_matched_in(it: &mut TrackLifecycle, frame: i32) -> u32
+pub extern "C" fn mot_update_matched(it: &mut TrackLifecycle, frame: i32) -> u32
     ensures { λ r. ⌜ answer r (now (it .exit)) ≡ updateMatchedOf (now (it .entry)) frame ⌝ }
 {
     let old = *it;
@@ -18,7 +18,7 @@ pub extern "C" fn update_matched_in(it: &mut TrackLifecycle, frame: i32) -> u32
 
 // The object is missed in a frame. The answer is the number; beside a refusal the record stays.
 #[no_mangle]
-pub extern "C" fn update_missed_in(it: &mut TrackLifecycle, frame: i32) -> u32
+pub extern "C" fn mot_update_missed(it: &mut TrackLifecycle, frame: i32) -> u32
     ensures { λ r. ⌜ answer r (now (it .exit)) ≡ updateMissedOf (now (it .entry)) frame ⌝ }
 {
     let old = *it;

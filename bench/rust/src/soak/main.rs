@@ -2,6 +2,7 @@
 //! Usage: soak MINUTES SEED | soak exhaustive | soak small
 
 mod boxes;
+mod lifecycles;
 mod logs;
 mod numbers;
 #[allow(dead_code)]
@@ -18,8 +19,9 @@ const ROUND: u64 = 2000;
 
 fn soak(minutes: f64, seed: u64) -> Result<(), String> {
     let (began, whole) = (Instant::now(), Duration::from_secs_f64(minutes * 60.0));
-    let mut numbers = Numbers::new(seed);
-    let (mut boxes, mut searches, mut updates) = (0u64, 0u64, [0u64; 3]);
+    // the lifecycles have numbers of their own, so that the other calls of a seed stay as they were recorded
+    let (mut numbers, mut others) = (Numbers::new(seed), Numbers::new(!seed));
+    let (mut boxes, mut searches, mut updates, mut records) = (0u64, 0u64, [0u64; 3], 0u64);
     while began.elapsed() < whole {
         for _ in 0..ROUND {
             boxes::call(&mut numbers).map_or(Ok(()), Err)?;
@@ -27,6 +29,7 @@ fn soak(minutes: f64, seed: u64) -> Result<(), String> {
             updates[0] += updates::sequence(&mut numbers)?;
             updates[1] += logs::internal_sequence(&mut numbers)?;
             updates[2] += logs::public_sequence(&mut numbers)?;
+            records += lifecycles::sequence(&mut others)?;
         }
         boxes += 2 * ROUND;
         searches += ROUND;
@@ -34,7 +37,7 @@ fn soak(minutes: f64, seed: u64) -> Result<(), String> {
     let seconds = began.elapsed().as_secs();
     println!(
         "seed {seed}: no difference in {boxes} matrices of boxes, {searches} searches, {} updates of the extended \
-         accumulator, {} of module 3's and {} of module 4's ({seconds} s)",
+         accumulator, {} of module 3's, {} of module 4's and {records} of a lifecycle ({seconds} s)",
         updates[0], updates[1], updates[2],
     );
     Ok(())

@@ -1,4 +1,4 @@
--- `lifecycle_in_place::update_matched_in` meets its contract: the walk of `Walk.antt`, at the method `update_matched`. Assumes nothing.
+-- `lifecycle_in_place::mot_update_matched` meets its contract: the walk of `Walk.antt`, at the method `update_matched`. Assumes nothing.
 use contract.Running.{givenOf, tables, tablesOf}
 use denote.Triple.Spec.{tripleOf}
 use denote.Triple.Table.{entered, cited}
@@ -6,14 +6,14 @@ use Rattle.lifecycle.specs.Lifecycle.{updateMatchedOf}
 use Rattle.lifecycle.proofs.TrackLifecycle.update_matched.Symbol.{name as #method, routine as the-method}
 use Rattle.lifecycle.proofs.TrackLifecycle.update_matched.Met as method
 use Rattle.lifecycle_in_place.proofs.Walk.{Method, meets}
-use Rattle.lifecycle_in_place.proofs.update_matched_in.Key.{name as #self}
-use Rattle.lifecycle_in_place.proofs.update_matched_in as self
-use Rattle.lifecycle_in_place.proofs.update_matched_in.Statement as stated
-use Rattle.lifecycle_in_place.proofs.update_matched_in.Code as code
+use Rattle.lifecycle_in_place.proofs.mot_update_matched.Key.{name as #self}
+use Rattle.lifecycle_in_place.proofs.mot_update_matched as self
+use Rattle.lifecycle_in_place.proofs.mot_update_matched.Statement as stated
+use Rattle.lifecycle_in_place.proofs.mot_update_matched.Code as code
 
-pub update-matched-in-spec : {M : Type 1} → stated.statement M
+pub mot-update-matched-spec : {M : Type 1} → stated.statement M
 unfolding code.routine tablesOf
-update-matched-in-spec 𝓤 H 𝓜 𝓖 𝓡 =
+mot-update-matched-spec 𝓤 H 𝓜 𝓖 𝓡 =
     entered 𝓤 H (tripleOf 𝓤 H (𝓖 .A) self.signature (self.spec 𝓤 H (𝓖 .A) (𝓜 .mem) (𝓡 .run)))
     (tables 𝓤 H 𝓜 𝓡 code.env .C) (tables 𝓤 H 𝓜 𝓡 code.env .Λ) #self code.function (code.unfolded 𝓤 H 𝓜 𝓡)
     (meets updateMatchedOf #method 𝓤 H (𝓖 .A) (givenOf 𝓤 H 𝓜 𝓖) (tablesOf 𝓤 H 𝓜 (tables 𝓤 H 𝓜 𝓡 code.env))

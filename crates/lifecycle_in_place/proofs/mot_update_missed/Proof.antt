@@ -1,4 +1,4 @@
--- `lifecycle_in_place::update_missed_in` meets its contract: the walk of `Walk.antt`, at the method `update_missed`. Assumes nothing.
+-- `lifecycle_in_place::mot_update_missed` meets its contract: the walk of `Walk.antt`, at the method `update_missed`. Assumes nothing.
 use contract.Running.{givenOf, tables, tablesOf}
 use denote.Triple.Spec.{tripleOf}
 use denote.Triple.Table.{entered, cited}
@@ -6,14 +6,14 @@ use Rattle.lifecycle.specs.Lifecycle.{updateMissedOf}
 use Rattle.lifecycle.proofs.TrackLifecycle.update_missed.Symbol.{name as #method, routine as the-method}
 use Rattle.lifecycle.proofs.TrackLifecycle.update_missed.Met as method
 use Rattle.lifecycle_in_place.proofs.Walk.{Method, meets}
-use Rattle.lifecycle_in_place.proofs.update_missed_in.Key.{name as #self}
-use Rattle.lifecycle_in_place.proofs.update_missed_in as self
-use Rattle.lifecycle_in_place.proofs.update_missed_in.Statement as stated
-use Rattle.lifecycle_in_place.proofs.update_missed_in.Code as code
+use Rattle.lifecycle_in_place.proofs.mot_update_missed.Key.{name as #self}
+use Rattle.lifecycle_in_place.proofs.mot_update_missed as self
+use Rattle.lifecycle_in_place.proofs.mot_update_missed.Statement as stated
+use Rattle.lifecycle_in_place.proofs.mot_update_missed.Code as code
 
-pub update-missed-in-spec : {M : Type 1} → stated.statement M
+pub mot-update-missed-spec : {M : Type 1} → stated.statement M
 unfolding code.routine tablesOf
-update-missed-in-spec 𝓤 H 𝓜 𝓖 𝓡 =
+mot-update-missed-spec 𝓤 H 𝓜 𝓖 𝓡 =
     entered 𝓤 H (tripleOf 𝓤 H (𝓖 .A) self.signature (self.spec 𝓤 H (𝓖 .A) (𝓜 .mem) (𝓡 .run)))
     (tables 𝓤 H 𝓜 𝓡 code.env .C) (tables 𝓤 H 𝓜 𝓡 code.env .Λ) #self code.function (code.unfolded 𝓤 H 𝓜 𝓡)
     (meets updateMissedOf #method 𝓤 H (𝓖 .A) (givenOf 𝓤 H 𝓜 𝓖) (tablesOf 𝓤 H 𝓜 (tables 𝓤 H 𝓜 𝓡 code.env))
