@@ -1,4 +1,4 @@
--- Document 01, "Numbers given back": the lengths of a frame of ids and distances; those of a state that is lent as runs of numbers. Definitions only.
+-- Document 01, "Numbers given back": the lengths of a frame of ids and distances. And, which 01 does not have, the lengths of a state that is lent as runs of numbers. Definitions only.
 use mathlib.Core.Bool.{Bool, _&&_, cond}
 use mathlib.Core.Path.{_≡_}
 use Prim.Native.Nat.{ℕ, _*_}
