@@ -1,4 +1,6 @@
 // How a table's numbers are read: a row of digits as an id and four corners, a side as rows laid one behind the other.
+#![tactic(auto)]
+
 ghost use Rattle.std.specs.Prelude.{◌≡◌, ◌++◌, ◌+◌, ◌*◌, ◌≤◌, ◌<◌, pos, length, take, get_or};
 ghost use Rattle.scene_rows.specs.Digits.{id_of, part_of, float64, box_of, size_of, Laid};
 
