@@ -2,13 +2,14 @@
 ghost use Rattle.std.specs.Prelude.{◌≡◌};
 ghost use Rattle.numerals.specs.Numbers.{digit_of, value_from, hex_of, decimal_of};
 
-#[derive(Drop)]
+#[derive(Clone, Copy)]
 pub enum Number {
     Value(u64),
     Nothing,
 }
 
 // The value of a digit, those above 9 in lower case; 16 where the byte is none.
+#[tactic(auto, unfolding(crate::specs::Numbers::digit_of))]
 pub fn digit(b: u8) -> u64
     ensures { result ≡ digit_of b }
 {
@@ -71,6 +72,7 @@ fn value_10(word: &[u8]) -> Number
 }
 
 // A word of 16 hexadecimal digits.
+#[tactic(auto, unfolding(crate::specs::Numbers::hex_of))]
 pub fn hex(word: &[u8]) -> Number
     ensures { result ≡ hex_of word.now }
 {
@@ -81,6 +83,7 @@ pub fn hex(word: &[u8]) -> Number
 }
 
 // A word of decimal digits. Zeros in front change nothing.
+#[tactic(auto, unfolding(crate::specs::Numbers::decimal_of))]
 pub fn decimal(word: &[u8]) -> Number
     ensures { result ≡ decimal_of word.now }
 {

@@ -1,2 +1,4 @@
 // Numbers as text: what the digits of a word say.
+#![tactic(auto)]
+
 pub mod digits;
