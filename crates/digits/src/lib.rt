@@ -1,4 +1,6 @@
 // The digits of a whole number in limbs.
+#![tactic(auto)]
+
 ghost use Rattle.std.specs.Prelude.{◌≡◌, true, ◌≤◌, ◌<◌, get_or};
 ghost use Rattle.digits.specs.Digits.{all_digits};
 
