@@ -1,10 +1,10 @@
 -- Negation is exact: it turns the order round and nothing else. Assumes nothing.
 use mathlib.Core.Path.{◌≡◌, refl, ap}
 use mathlib.Core.Bool.{Bool, true, false, not, ◌&&◌, not-not}
-use Prim.Native.Nat.{ℕ, ◌+◌}
+use Prim.Native.Nat.{ℕ}
 use native.Mathlib.Nat.{add_comm}
 use lib.Dec.{ltb}
-use lib.Ieee.{Float, nan, inf, fin, lt, neg, below, is_nan, up, down}
+use lib.Ieee.{Float, nan, inf, fin, lt, neg, below, is_nan}
 
 pub neg-neg : (x : Float) → neg (neg x) ≡ x
 unfolding neg

@@ -1,18 +1,17 @@
 -- Whole numbers up to 2 ^ 53 in size add, subtract, multiply and compare as whole numbers. Assumes nothing.
 use mathlib.Core.Path.{◌≡◌, refl, sym, ap, ◌∙◌, subst}
-use mathlib.Core.Bool.{Bool, true, false, not, cond, ◌&&◌, ◌||◌, beq, true≢false, false≢true}
-use mathlib.Core.Logic.{◌⊎◌, inl, inr}
+use mathlib.Core.Bool.{Bool, true, false, not, cond, ◌&&◌, ◌||◌, beq, false≢true}
 use Prim.Native.Nat.{ℕ, zero, suc, ◌+◌, ◌-◌, ◌*◌, ◌^◌, ◌≤◌, ◌<◌}
 use native.Mathlib.Nat.{mul-zero, zero-mul, mul-one, mul_comm, mul_assoc, mul-pos, eq_of_mul-eq-mul_right}
 use native.Mathlib.Omega.{arith}
 use lib.Dec.{ltb, leb, eqb}
-use lib.IntN.{ℤ, pos, negsuc, neg_ℤ, nat_abs, sub_ℕ, ◌+ℤ◌, ◌-ℤ◌, ◌*ℤ◌, neg_ℤ-neg_ℤ, neg_ℤ-+ℤ, +ℤ_comm, pos-ne-negsuc}
+use lib.IntN.{ℤ, pos, negsuc, neg_ℤ, nat_abs, ◌+ℤ◌, ◌-ℤ◌, ◌*ℤ◌, neg_ℤ-neg_ℤ, neg_ℤ-+ℤ, +ℤ_comm, pos-ne-negsuc}
 use lib.Signed.{lt_z, le_z}
-use lib.Ieee.{Float, nan, inf, fin, binary64, round, sum, add, sub, mul, neg, lt, le, eq, below, level, unlike, is_nan, of_int, up, down}
+use lib.Ieee.{Float, nan, inf, fin, binary64, round, sum, add, sub, mul, neg, lt, le, eq, below, unlike, is_nan, of_int, up, down}
 use lib.Ieee.Fits.{down_pos}
 use lib.Ieee.Exact.{HasValue}
 use lib.Ieee.Back.{round_whole}
-use borrow.Author.Tests.{lt-ltb, le-ltb, ltb-true, ltb-false, leb-true, leb-false, le-leb, lt-leb, eqb-true}
+use borrow.Author.Tests.{lt-ltb, le-ltb, ltb-true, ltb-false, le-leb, lt-leb, eqb-true}
 use Rattle.floats.specs.Float.{min_of, max_of}
 use Rattle.floats.specs.Whole.{signed, max_z, min_z, IsWhole}
 use Rattle.floats.proofs.Order.{le_not_lt, zero_of}

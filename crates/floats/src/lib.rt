@@ -1,4 +1,6 @@
 // What Rust has as methods on f64, and the zero test of the search.
+#![tactic(auto)]
+
 ghost use Rattle.std.specs.Prelude.{◌≡◌};
 ghost use Rattle.floats.specs.Float.{max_of, min_of, is_finite, abs_of, is_zero};
 
@@ -6,6 +8,7 @@ ghost use Rattle.floats.specs.Float.{max_of, min_of, is_finite, abs_of, is_zero}
 const TINY: f64 = 1e-10;
 
 // f64::max: the other operand where one is a NaN.
+#[tactic(auto, using(crate::proofs::Tests::ne_self), unfolding(crate::specs::Float::max_of))]
 pub fn max(x: f64, y: f64) -> f64
     ensures { result ≡ max_of x y }
 {
@@ -19,6 +22,7 @@ pub fn max(x: f64, y: f64) -> f64
 }
 
 // f64::min: the other operand where one is a NaN.
+#[tactic(auto, using(crate::proofs::Tests::ne_self), unfolding(crate::specs::Float::min_of))]
 pub fn min(x: f64, y: f64) -> f64
     ensures { result ≡ min_of x y }
 {
