@@ -18,7 +18,7 @@ Small z = mag z < 2 ^ hbits w32
 
 -- a number read back from its bits
 pub back : (z : ℤ) → Small z → to_z w32 (of_z w32 z) ≡ z
-back z h = to_z-of_z (record { sfits = h })
+back z h = to_z-of_z {w = w32} (record { sfits = h })
 
 -- what a callee said of a signed field, which it was handed as bits
 pub told {ℓ} : {A : Type ℓ} (f : ℤ → A) (z : ℤ) {r : A} → Small z → r ≡ f (to_z w32 (of_z w32 z)) → r ≡ f z

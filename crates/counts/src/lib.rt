@@ -1,4 +1,6 @@
 // Ids and counters, i32 as the Rust has them: each test and each sum of them once; a place as an index, and one test or another.
+#![tactic(auto)]
+
 ghost use Rattle.std.specs.Prelude.{◌≡◌, true, ◌||◌, ◌≤◌, pos, ◌+ℤ◌};
 ghost use Rattle.std.specs.Int.Signed.{non_neg};
 ghost use Rattle.counts.specs.Counts.{same_id, room_for, one_if};
