@@ -1,4 +1,6 @@
 // A count as a size; the lengths of a frame of ids and distances, and of a state that is lent as runs of numbers.
+#![tactic(auto)]
+
 ghost use Rattle.std.specs.Prelude.{◌≡◌, true, ◌≤◌, nat_abs};
 ghost use Rattle.std.specs.Int.Signed.{non_neg};
 ghost use Rattle.sizes.specs.Sizes.{shape_no, log_and_table, lengths_no};
