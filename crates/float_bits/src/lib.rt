@@ -1,4 +1,6 @@
 // Floats as bit patterns, one pattern for every NaN.
+#![tactic(auto)]
+
 ghost use Rattle.std.specs.Prelude.{◌≡◌};
 ghost use Rattle.std.specs.Float.{binary64};
 ghost use Rattle.std.specs.Float.Ieee.{of_bits, to_bits};
@@ -24,6 +26,7 @@ pub fn bits_of(x: f64) -> u64
 }
 
 // A computed float as it is written: a zero without its sign.
+#[tactic(auto, unfolding(crate::specs::Unsigned::unsigned))]
 pub fn computed(x: f64) -> f64
     ensures { result ≡ unsigned x }
 {
