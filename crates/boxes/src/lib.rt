@@ -1,11 +1,13 @@
 // A box, whether it is refused, and its area.
 // Ported from norfair-rs, internal/motmetrics/iou.rs, which follows py-motmetrics (NOTICE).
+#![tactic(auto)]
+
 ghost use Rattle.std.specs.Prelude.{◌≡◌};
 ghost use Rattle.boxes.specs.Boxes.{bad_box, area_of};
 
 // A box: its corner with the smaller coordinates, and the opposite one.
 #[repr(C)]
-#[derive(Drop)]
+#[derive(Clone, Copy)]
 pub struct Box {
     pub x_min: f64,
     pub y_min: f64,
