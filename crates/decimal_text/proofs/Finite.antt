@@ -2,12 +2,12 @@
 use mathlib.Core.Path.{◌≡◌, refl, sym, ◌∙◌, ap}
 use mathlib.Core.Bool.{Bool, true, false, cond, false≢true}
 use mathlib.Core.List.{List, [], ◌∷◌}
-use Prim.Native.Nat.{ℕ, zero, suc, ◌+◌, ◌*◌, ◌/◌, ◌%◌, ◌≤◌, ◌<◌}
+use Prim.Native.Nat.{ℕ, zero, suc, ◌+◌, ◌/◌, ◌%◌, ◌≤◌, ◌<◌}
 use native.Mathlib.Omega.{arith}
 use borrow.Author.Tests.{leb-true, leb-false}
 use lib.Dec.{T, eqb, leb}
 use lib.IntN.{ℤ}
-use lib.Ieee.{Float, Format, nan, inf, fin, binary64, fits, odd, of_fields, of_bits, to_bits, ones, hid, top, prec, low}
+use lib.Ieee.{Float, Format, nan, inf, fin, binary64, fits, odd, of_fields, of_bits, to_bits, ones, hid, prec, low}
 use lib.Ieee.Bits.{of_bits-to_bits}
 use Rattle.decimal_text.specs.Texts.{sign_of, exponent_of, Signed, Written}
 use Rattle.decimal_text.proofs.Laying.{no_sign, a_sign}

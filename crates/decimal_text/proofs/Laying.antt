@@ -1,5 +1,5 @@
 -- Parts laid one behind the other. Assumes nothing.
-use mathlib.Core.Path.{◌≡◌, refl, sym, ◌∙◌}
+use mathlib.Core.Path.{◌≡◌, refl, ◌∙◌}
 use mathlib.Core.Bool.{Bool, true, false, cond}
 use mathlib.Core.List.{List, [], ◌∷◌, ◌++◌, append_assoc, append-nil}
 use Prim.Native.Nat.{ℕ, ◌+◌, ◌/◌, ◌%◌, ◌≤◌, ◌<◌}
@@ -9,7 +9,7 @@ use borrow.Author.Tests.{eq-eqb, ne_eqb}
 use lib.Dec.{eqb}
 use lib.ListN.{length, take, get_or, set, length-append}
 use lib.Seq.{take-suc, take-suc-set, take_all}
-use Rattle.decimal_text.specs.Texts.{sign_of, name_of, exponent_of, Laid, Numbered, Written, WrittenAt}
+use Rattle.decimal_text.specs.Texts.{sign_of, name_of, exponent_of, Laid, Numbered, WrittenAt}
 use Rattle.decimal_text.proofs.Decimals.{numeral_length}
 
 pub none_laid : (out : List ℕ) (at : ℕ) → take (at + 0) out ≡ take at out ++ []

@@ -1,5 +1,7 @@
 // A float in decimal to six places, exact as C's "%.6f": the digits are those of the binary value,
 // rounded to the nearest, ties to even. Its shape is proved; the digits are compared with Python's.
+#![tactic(auto)]
+
 ghost use Rattle.std.specs.Prelude.{◌≡◌, true, ◌≤◌, ◌<◌, length, take};
 ghost use Rattle.std.specs.Float.{binary64};
 ghost use Rattle.std.specs.Float.Ieee.{to_bits};
