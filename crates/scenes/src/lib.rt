@@ -1,4 +1,6 @@
 // The scenes that are shipped, and the one place where their frames come from.
+#![tactic(auto)]
+
 ghost use Rattle.std.specs.Prelude.{◌≡◌, ◌≤◌, ◌<◌, length};
 ghost use Rattle.scenes.specs.Frames.{frames_in, truths_in, predictions_in, Few, Lent, Shown};
 
@@ -11,7 +13,7 @@ mod frame_tables;
 mod prediction_tables;
 mod truth_tables;
 
-#[derive(Drop)]
+#[derive(Clone, Copy)]
 pub enum Scene {
     Match,
     Incident,
@@ -19,7 +21,7 @@ pub enum Scene {
 }
 
 // How many ids and box floats a frame has on each side.
-#[derive(Drop)]
+#[derive(Clone, Copy)]
 pub struct Sizes {
     pub truths: usize,
     pub truth_floats: usize,
