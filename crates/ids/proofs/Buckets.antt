@@ -1,7 +1,7 @@
 -- The bucket of an id: its size, folded at 0, in the code's steps; and ids of different buckets differ. Assumes nothing.
-use mathlib.Core.Path.{◌≡◌, refl, sym, ap, ◌∙◌}
-use mathlib.Core.Bool.{Bool, true, false, true≢false}
-use Prim.Native.Nat.{ℕ, suc, ◌<◌, ◌≤◌, ◌-◌}
+use mathlib.Core.Path.{◌≡◌, refl, sym, ap}
+use mathlib.Core.Bool.{true, false, true≢false}
+use Prim.Native.Nat.{suc, ◌<◌}
 use native.Mathlib.Omega.{arith}
 use borrow.Author.Tests.{le-ltb}
 use lib.Dec.{T}

@@ -1,12 +1,14 @@
 // A run of ids: where an id stands in it, and whether one stands twice.
 // It takes the place of the hash maps of norfair-rs, internal/motmetrics/accumulator.rs (NOTICE).
+#![tactic(auto)]
+
 ghost use Rattle.std.specs.Prelude.{◌≡◌, true, ◌<◌, ◌≤◌, length, take};
 ghost use Rattle.std.specs.Int.Signed.{lt_z};
 ghost use Rattle.ids.specs.Ids.{seek_of, is_absent, distinct_of};
 ghost use Rattle.ids.specs.Chains.{bucket_of, Last, Chained};
 
 // Where an id stands.
-#[derive(Drop)]
+#[derive(Clone, Copy)]
 pub enum Lookup {
     At(usize),
     Absent,
