@@ -1,12 +1,14 @@
 // Events, a log of them, and what a log counts and sums.
 // Ported from norfair-rs, internal/motmetrics/accumulator.rs and metrics/accumulator.rs, which follow py-motmetrics
 // (NOTICE): the four cases that are ever made, and an array with a used count where the Rust has a Vec.
+#![tactic(auto)]
+
 ghost use Rattle.std.specs.Prelude.{◌≡◌, ◌≤◌, take};
 ghost use Rattle.events.specs.Events.{empty_log, Room, paired_of, added_of, tally_of};
 
 // What happened: a truth id matched to a hypothesis id at a distance, the same with a partner other than its last, a
 // truth id missed, or a hypothesis id that stands alone.
-#[derive(Drop)]
+#[derive(Clone, Copy)]
 pub enum What {
     Match(i32, i32, f64),
     Switch(i32, i32, f64),
@@ -14,20 +16,20 @@ pub enum What {
     FalsePositive(i32),
 }
 
-#[derive(Drop)]
+#[derive(Clone, Copy)]
 pub struct Event {
     pub frame: i32,
     pub what: What,
 }
 
-#[derive(Drop)]
+#[derive(Clone, Copy)]
 pub struct Log {
     pub events: [Event; 1024],
     pub used: usize,
 }
 
 // How often each case stands in a log, how many events hold a truth id, and the sums of the distances and of 1.0 less each.
-#[derive(Drop)]
+#[derive(Clone, Copy)]
 pub struct Tally {
     pub matches: usize,
     pub switches: usize,
