@@ -1,10 +1,12 @@
 // Whole numbers with a sign, of 32 bits.
+#![tactic(auto)]
+
 ghost use Rattle.std.specs.Prelude.{◌≡◌, ◌≤◌, ◌<◌, pos, nat_abs};
 ghost use Rattle.wholes.specs.Wholes.{below_zero, plain_of, negated_of, whole_of};
 
 use numerals::digits::{Number, decimal};
 
-#[derive(Drop)]
+#[derive(Clone, Copy)]
 pub enum Whole {
     Int(i32),
     NoInt,
@@ -18,6 +20,7 @@ fn as_int(n: u64) -> i32
 }
 
 // By way of -1, so that the least number fits on the way.
+#[tactic(auto, unfolding(crate::specs::Wholes::below_zero))]
 fn below_zero(n: u64) -> i32
     requires { (0 < n) × (n ≤ 2147483648) }
     ensures { result ≡ below_zero n }
@@ -26,6 +29,7 @@ fn below_zero(n: u64) -> i32
     -1 - m
 }
 
+#[tactic(auto, unfolding(crate::specs::Wholes::plain_of))]
 fn plain(number: Number) -> Whole
     ensures { result ≡ plain_of number }
 {
@@ -40,6 +44,7 @@ fn plain(number: Number) -> Whole
     }
 }
 
+#[tactic(auto, unfolding(crate::specs::Wholes::negated_of, crate::specs::Wholes::below_zero))]
 fn negated(number: Number) -> Whole
     ensures { result ≡ negated_of number }
 {
@@ -58,6 +63,7 @@ fn negated(number: Number) -> Whole
 }
 
 // A word of decimal digits, with a minus before them or none.
+#[tactic(auto, unfolding(crate::specs::Wholes::whole_of))]
 pub fn whole_in(word: &[u8]) -> Whole
     ensures { result ≡ whole_of word.now }
 {
