@@ -1,4 +1,6 @@
 // Indices, marks and squares, for the search and for what is proved of it.
+#![tactic(auto)]
+
 ghost use Rattle.std.specs.Prelude.{◌≡◌, ◌≤◌, replicate};
 ghost use Rattle.square.specs.Index.{Picked};
 
