@@ -1,5 +1,7 @@
 // What a fragmentation of a track is, what share of its frames an object was tracked in, and the class of that share.
 // Ported from norfair-rs, internal/motmetrics/accumulator.rs, which follows py-motmetrics (NOTICE).
+#![tactic(auto)]
+
 ghost use Rattle.std.specs.Prelude.{◌≡◌};
 ghost use Rattle.lifecycle_parts.specs.Parts.{fragments, share_of, class_of};
 
@@ -8,7 +10,7 @@ const MOSTLY_TRACKED: f64 = 0.8;
 
 const MOSTLY_LOST: f64 = 0.2;
 
-#[derive(Drop)]
+#[derive(Clone, Copy)]
 pub enum Class {
     MostlyTracked,
     PartiallyTracked,
