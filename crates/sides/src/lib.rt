@@ -1,5 +1,7 @@
 // The sides of an intersection: the larger of two floats, the smaller, and what they enclose.
 // Ported from norfair-rs, internal/motmetrics/iou.rs, which follows py-motmetrics (NOTICE).
+#![tactic(auto)]
+
 ghost use Rattle.std.specs.Prelude.{◌≡◌, cond};
 ghost use Rattle.std.specs.Float.Ieee.{lt};
 ghost use Rattle.floats.specs.Float.{max_of, zero64};
@@ -20,6 +22,7 @@ pub fn lower(x: f64, y: f64) -> f64
 }
 
 // Width times height, and 0 where a side is the wrong way round.
+#[tactic(auto, unfolding(crate::specs::Sides::rectangle_of))]
 pub fn rectangle(x_min: f64, y_min: f64, x_max: f64, y_max: f64) -> f64
     ensures { result ≡ rectangle_of x_min y_min x_max y_max }
 {
