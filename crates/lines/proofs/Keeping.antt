@@ -28,7 +28,7 @@ pub onward_passed : (r : Reader) → Onward r (passed_of r)
 onward_passed r = go (ltb r.at r.end) refl
   where
     one : Reader
-    one = record { at = r.at + 1; end = r.end; over = r.over; fault = r.fault }
+    one = record { stdin = r.stdin; at = r.at + 1; end = r.end; over = r.over; fault = r.fault }
 
     go : (b : Bool) → ltb r.at r.end ≡ b → Onward r (cond b one r)
     go true e =

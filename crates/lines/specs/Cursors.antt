@@ -13,10 +13,10 @@ abbrev pub next_byte : List ℕ → Reader → ℕ
 next_byte buf r = cond (ltb r.at r.end) (get_or buf r.at 0) 10
 
 abbrev pub marked_of : Reader → Bool → Reader
-marked_of r fault = record { at = r.at; end = r.end; over = r.over; fault = fault }
+marked_of r fault = record { stdin = r.stdin; at = r.at; end = r.end; over = r.over; fault = fault }
 
 abbrev pub passed_of : Reader → Reader
-passed_of r = cond (ltb r.at r.end) (record { at = r.at + 1; end = r.end; over = r.over; fault = r.fault }) r
+passed_of r = cond (ltb r.at r.end) (record { stdin = r.stdin; at = r.at + 1; end = r.end; over = r.over; fault = r.fault }) r
 
 -- what every read keeps: a fault stays, and so does the input's end
 pub record Onward (r q : Reader) : Type 0 where

@@ -9,57 +9,60 @@ ghost use Rattle.lines.specs.Words.{float_read, count_read, whole_read};
 
 use float_bits::float_of;
 use numerals::digits::{Number, decimal, hex};
+use std::io::{Read, Stdin};
 use wholes::{Whole, whole_in};
 
-// A place in the buffer, which holds what was read up to end.
-#[derive(Drop)]
+// A place in the buffer, which holds what was read of stdin up to end.
+#[derive(Clone, Copy)]
 pub struct Reader {
+    pub stdin: Stdin,
     pub at: usize,
     pub end: usize,
     pub over: bool,
     pub fault: bool,
 }
 
-#[derive(Drop)]
+#[derive(Clone, Copy)]
 pub struct Peeked {
     pub byte: u8,
     pub reader: Reader,
 }
 
-#[derive(Drop)]
+#[derive(Clone, Copy)]
 pub struct ReadWord {
     pub len: usize,
     pub reader: Reader,
 }
 
-#[derive(Drop)]
+#[derive(Clone, Copy)]
 pub struct ReadFloat {
     pub value: f64,
     pub reader: Reader,
 }
 
-#[derive(Drop)]
+#[derive(Clone, Copy)]
 pub struct ReadCount {
     pub value: u64,
     pub reader: Reader,
 }
 
-#[derive(Drop)]
+#[derive(Clone, Copy)]
 pub struct ReadWhole {
     pub value: i32,
     pub reader: Reader,
 }
 
-#[derive(Drop)]
+#[derive(Clone, Copy)]
 pub struct ReadRun {
     pub len: usize,
     pub reader: Reader,
 }
 
-pub fn start() -> Reader
-    ensures { result ≡ record { at = 0; end = 0; over = false; fault = false } }
+pub fn start(stdin: Stdin) -> Reader
+    ensures { result ≡ record { stdin = stdin; at = 0; end = 0; over = false; fault = false } }
 {
     Reader {
+        stdin,
         at: 0,
         end: 0,
         over: false,
@@ -75,12 +78,12 @@ pub fn marked(mut r: Reader, fault: bool) -> Reader
     r
 }
 
-fn read_more(buf: &mut [u8; 65536], fault: bool) -> Reader
+fn read_more(buf: &mut [u8; 65536], mut stdin: Stdin, fault: bool) -> Reader
     ensures { (result.fault ≡ fault) × Within result }
 {
-    let got = libc::read(0, buf);
-    let n = io::count(got, buf);
+    let n = stdin.read(buf).unwrap_or(0);
     Reader {
+        stdin,
         at: 0,
         end: n,
         over: n == 0,
@@ -99,13 +102,14 @@ fn filled(buf: &mut [u8; 65536], r: Reader) -> Reader
     }
     if r.over {
         return Reader {
+            stdin: r.stdin,
             at: 0,
             end: 0,
             over: true,
             fault: r.fault,
         };
     }
-    read_more(buf, r.fault)
+    read_more(buf, r.stdin, r.fault)
 }
 
 // The byte that stands next, which is not passed; a line's end where the input is over.
@@ -182,6 +186,7 @@ pub fn next_word(buf: &mut [u8; 65536], r: Reader, letters: &mut [u8]) -> ReadWo
 }
 
 // What a word says, with the reader that stands behind it.
+#[tactic(auto, unfolding(crate::specs::Words::float_read))]
 fn float_read(word: &[u8], r: Reader) -> ReadFloat
     ensures { result ≡ float_read (hex_of word.now) r }
 {
@@ -197,6 +202,7 @@ fn float_read(word: &[u8], r: Reader) -> ReadFloat
     }
 }
 
+#[tactic(auto, unfolding(crate::specs::Words::count_read))]
 fn count_read(word: &[u8], r: Reader) -> ReadCount
     ensures { result ≡ count_read (decimal_of word.now) r }
 {
@@ -209,6 +215,7 @@ fn count_read(word: &[u8], r: Reader) -> ReadCount
     }
 }
 
+#[tactic(auto, unfolding(crate::specs::Words::whole_read))]
 fn whole_read(word: &[u8], r: Reader) -> ReadWhole
     ensures { result ≡ whole_read (whole_of word.now) r }
 {

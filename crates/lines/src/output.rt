@@ -5,27 +5,30 @@ ghost use Rattle.lines.specs.Cursors.{Kept, place_of};
 
 use float_bits::{bits_of, computed};
 use hex_text::spell;
+use std::io::{Stdout, Write};
 use wholes::size;
 
 // How much of the buffer waits, and whether a write failed.
-#[derive(Drop)]
+#[derive(Clone, Copy)]
 pub struct Writer {
+    pub stdout: Stdout,
     pub at: usize,
     pub failed: bool,
 }
 
-pub fn start() -> Writer
-    ensures { result ≡ record { at = 0; failed = false } }
+pub fn start(stdout: Stdout) -> Writer
+    ensures { result ≡ record { stdout = stdout; at = 0; failed = false } }
 {
     Writer {
+        stdout,
         at: 0,
         failed: false,
     }
 }
 
-fn sent(buf: &[u8], n: usize) -> bool {
+fn sent(buf: &[u8], n: usize, mut stdout: Stdout) -> bool {
     if n <= buf.len() {
-        return io::write_all(1, &buf[..n]);
+        return stdout.write_all(&buf[..n]).is_ok();
     }
     false
 }
@@ -35,12 +38,14 @@ pub fn flush(buf: &[u8; 65536], w: Writer) -> Writer
 {
     if w.failed {
         return Writer {
+            stdout: w.stdout,
             at: 0,
             failed: true,
         };
     }
-    let is_sent = sent(buf, w.at);
+    let is_sent = sent(buf, w.at, w.stdout);
     Writer {
+        stdout: w.stdout,
         at: 0,
         failed: !is_sent,
     }
@@ -54,6 +59,7 @@ pub fn byte(buf: &mut [u8; 65536], w: Writer, b: u8) -> Writer
     if at < 65536 {
         buf[at] = b;
         return Writer {
+            stdout: w.stdout,
             at: at + 1,
             failed: w.failed,
         };
@@ -61,6 +67,7 @@ pub fn byte(buf: &mut [u8; 65536], w: Writer, b: u8) -> Writer
     let q = flush(buf, w);
     buf[0] = b;
     Writer {
+        stdout: w.stdout,
         at: 1,
         failed: q.failed,
     }

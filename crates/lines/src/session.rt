@@ -3,22 +3,22 @@ use crate::input::Reader;
 use crate::output::Writer;
 use crate::{input, output};
 
-#[derive(Drop)]
+#[derive(Clone, Copy)]
 pub struct Session {
     pub reader: Reader,
     pub writer: Writer,
 }
 
 // What a module of requests says to a name.
-#[derive(Drop)]
+#[derive(Clone, Copy)]
 pub enum Reply {
     Given(Session),
     Unknown,
 }
 
-pub fn start() -> Session {
-    let reader = input::start();
-    let writer = output::start();
+pub fn start(rt: &HostRuntime) -> Session {
+    let reader = input::start(rt.stdin());
+    let writer = output::start(rt.stdout());
     Session { reader, writer }
 }
 
