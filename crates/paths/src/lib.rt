@@ -1,12 +1,14 @@
 // Step E of the search: a path from a free row to a free column, and its flip.
 // The square lies at stride 64; in the tables n or more is no partner; 64 is no place and no column.
+#![tactic(auto)]
+
 ghost use Rattle.std.specs.Prelude.{◌≡◌, ◌*◌, ◌≤◌, length, get_or, replicate};
 ghost use Rattle.paths.specs.State.{state};
 ghost use Rattle.paths.specs.Path.{bfs_of, Flips, Path};
 ghost use Rattle.paths.specs.Inner.{Trail, Begins, Holds, Leads};
 
 // The free column met, or 64, and how many rows were queued.
-#[derive(Drop)]
+#[derive(Clone, Copy)]
 pub struct Found {
     pub hit: usize,
     pub tail: usize,
