@@ -1,4 +1,6 @@
 // Step F's minimum and step G of the search. The square lies at stride 64; sets of rows and columns are marks, or columns in a list.
+#![tactic(auto)]
+
 ghost use Rattle.std.specs.Prelude.{◌≡◌, Bool, false, ℕ, ◌+◌, ◌*◌, ◌≤◌, ◌<◌, List, length, get_or};
 ghost use Rattle.std.specs.Float.{nan, binary64};
 ghost use Rattle.std.specs.Float.Ieee.{add, sub};
