@@ -1,5 +1,7 @@
 // The lifecycle of a truth object: how often it was there, how often it was tracked, how often its track broke.
 // Ported from norfair-rs, internal/motmetrics/accumulator.rs, which follows py-motmetrics (NOTICE).
+#![tactic(auto)]
+
 ghost use Rattle.std.specs.Prelude.{◌≡◌, true};
 ghost use Rattle.lifecycle.specs.Lifecycle.{fresh, sound_counts, room_to_match, room_to_miss, matched_after, missed_after};
 ghost use Rattle.lifecycle.specs.Lifecycle.{update_matched_of, update_missed_of, shared_of, coverage_of};
@@ -7,7 +9,7 @@ ghost use Rattle.lifecycle.specs.Lifecycle.{update_matched_of, update_missed_of,
 use lifecycle_parts::{fragments, share_of};
 
 #[repr(C)]
-#[derive(Drop)]
+#[derive(Clone, Copy)]
 pub struct TrackLifecycle {
     pub gt_id: i32,
     pub first_frame: i32,
@@ -19,13 +21,13 @@ pub struct TrackLifecycle {
 }
 
 // What an update answers: its number, and the next lifecycle; beside a refusal the one that came.
-#[derive(Drop)]
+#[derive(Clone, Copy)]
 pub struct Updated {
     pub number: u32,
     pub lifecycle: TrackLifecycle,
 }
 
-#[derive(Drop)]
+#[derive(Clone, Copy)]
 pub struct Coverage {
     pub number: u32,
     pub value: f64,
@@ -70,6 +72,7 @@ impl TrackLifecycle {
     }
 
     // The object is missed in a frame.
+    #[tactic(auto, unfolding(crate::specs::Lifecycle::update_missed_of))]
     pub fn update_missed(self, frame: i32) -> Updated
         ensures { result ≡ update_missed_of self frame }
     {
@@ -93,6 +96,7 @@ impl TrackLifecycle {
     }
 
     // The share of the object's frames in which it was tracked.
+    #[tactic(auto, unfolding(crate::specs::Lifecycle::coverage_of))]
     pub fn coverage(self) -> Coverage
         ensures { result ≡ coverage_of self }
     {
@@ -109,6 +113,7 @@ impl TrackLifecycle {
     }
 
     // Whether none of the three counts is negative.
+    #[tactic(auto, unfolding(crate::specs::Lifecycle::sound_counts))]
     pub fn sound(self) -> bool
         ensures { result ≡ sound_counts self }
     {
@@ -122,6 +127,7 @@ impl TrackLifecycle {
     }
 
     // Whether no count would pass with a match.
+    #[tactic(auto, unfolding(crate::specs::Lifecycle::room_to_match))]
     pub fn room_to_match(self) -> bool
         ensures { result ≡ room_to_match self }
     {
@@ -137,6 +143,7 @@ impl TrackLifecycle {
     }
 
     // Whether no count would pass with a miss.
+    #[tactic(auto, unfolding(crate::specs::Lifecycle::room_to_miss))]
     pub fn room_to_miss(self) -> bool
         ensures { result ≡ room_to_miss self }
     {
@@ -158,6 +165,7 @@ impl TrackLifecycle {
     }
 
     // The lifecycle after a miss that there is room for.
+    #[tactic(auto, unfolding(crate::specs::Lifecycle::missed_after, crate::specs::Lifecycle::room_to_miss))]
     pub fn missed(mut self, frame: i32) -> Self
         requires { room_to_miss self ≡ true }
         ensures { result ≡ missed_after self frame }
