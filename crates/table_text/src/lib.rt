@@ -1,4 +1,6 @@
 // Text in columns, for people.
+#![tactic(auto)]
+
 ghost use Rattle.std.specs.Prelude.{◌≡◌, ◌-◌, ◌≤◌};
 ghost use Rattle.lines.specs.Cursors.{Kept};
 ghost use Rattle.table_text.specs.Bars.{most_forty};
@@ -82,6 +84,7 @@ pub fn six(to: &mut [u8; 65536], w: Writer, width: usize, x: f64) -> Writer
     right(to, w, width, &letters[..n])
 }
 
+#[tactic(auto, unfolding(crate::specs::Bars::most_forty))]
 fn most_forty(marks: u64) -> usize
     ensures { (result ≡ most_forty marks) × (result ≤ 40) }
 {
