@@ -1,4 +1,6 @@
 // Decimal texts beside Python's "%.6f": a float's 16 hex digits a line in, its text a line out.
+#![tactic(auto)]
+
 use decimal_text::write_six;
 use float_bits::float_of;
 use lines::output::Writer;
@@ -44,8 +46,8 @@ fn turn(from: &mut [u8; 65536], to: &mut [u8; 65536], s: Session) -> Session {
     answer_line(from, to, Session { reader, writer })
 }
 
-fn answer_all(from: &mut [u8; 65536], to: &mut [u8; 65536]) {
-    let mut s = session::start();
+fn answer_all(rt: &HostRuntime, from: &mut [u8; 65536], to: &mut [u8; 65536]) {
+    let mut s = session::start(rt);
     let mut turns: u64 = 0x100_0000_0000;
     while turns > 0 && session::goes_on(s) {
         s = turn(from, to, s);
@@ -54,8 +56,8 @@ fn answer_all(from: &mut [u8; 65536], to: &mut [u8; 65536]) {
     output::flush(to, s.writer);
 }
 
-fn main() {
+fn main(rt: HostRuntime) {
     let mut from = io::large_buffer();
     let mut to = io::large_buffer();
-    answer_all(&mut from, &mut to);
+    answer_all(&rt, &mut from, &mut to);
 }
