@@ -7,7 +7,7 @@ use native.Mathlib.Nat.{not-suc-le-zero, le_of_suc-le-suc}
 use native.Mathlib.Omega.{arith}
 use borrow.Author.Tests.{leb-true, le-leb}
 use lib.Dec.{leb}
-use lib.IntN.{ℤ, pos}
+use lib.IntN.{pos}
 use lib.Signed.{non_neg}
 use lib.ListN.{length, take, get_or, get_or-map}
 use lib.Seq.{get_or-take, length-take-le}

@@ -1,26 +1,28 @@
 // A slot of a table of truth ids, and what a frame does to it.
 // Ported from norfair-rs, internal/motmetrics/accumulator.rs, which follows py-motmetrics (NOTICE): arrays with a used
 // count where the Rust has two hash maps.
+#![tactic(auto)]
+
 ghost use Rattle.std.specs.Prelude.{◌≡◌};
 ghost use Rattle.slots.specs.Slots.{new_slot, switches, missed_slot, matched_slot, booked_slot};
 
 use lifecycle::TrackLifecycle;
 
 // The prediction that a truth id was last matched to, or none yet.
-#[derive(Drop)]
+#[derive(Clone, Copy)]
 pub enum Partner {
     Nobody,
     Id(i32),
 }
 
-#[derive(Drop)]
+#[derive(Clone, Copy)]
 pub struct Slot {
     pub lifecycle: TrackLifecycle,
     pub partner: Partner,
 }
 
 // A slot after a frame in which its id stood: the slot as it was, and over, where a count would pass.
-#[derive(Drop)]
+#[derive(Clone, Copy)]
 pub struct BookedSlot {
     pub slot: Slot,
     pub over: bool,
