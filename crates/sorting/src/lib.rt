@@ -1,4 +1,6 @@
 // A stable sort of places by the floats that stand there: the port's own, where the Rust calls sort_by.
+#![tactic(auto)]
+
 ghost use Rattle.std.specs.Prelude.{◌≡◌, ◌+◌, ◌<◌, ◌≤◌, length, take, drop};
 ghost use Rattle.std.proofs.lemmas.List.Edits.{sets};
 ghost use Rattle.sorting.specs.Order.{key_of, Numbers};
