@@ -5,10 +5,9 @@ use mathlib.Core.Logic.{◌⊎◌, inl, inr}
 use Prim.Native.Nat.{ℕ, zero, suc, ◌+◌, ◌*◌, ◌<◌}
 use native.Mathlib.Nat.{mul-pos, zero-mul, mul-one, suc-mul, add-suc, ne_of_gt}
 use native.Mathlib.Omega.{arith}
-use lib.Dec.{eqb}
-use lib.IntN.{ℤ, pos, nat_abs, ◌+ℤ◌, ◌-ℤ◌, ◌*ℤ◌, zero-*ℤ, *ℤ-zero}
+use lib.IntN.{pos, zero-*ℤ, *ℤ-zero}
 use lib.Signed.{le_z}
-use lib.Ieee.{Float, nan, inf, fin, binary64, sub, div, eq, le, round, up, down, unlike}
+use lib.Ieee.{Float, nan, inf, fin, binary64, sub, div, eq, round, up, down, unlike}
 use lib.Ieee.Exact.{HasValue}
 use lib.Ieee.Fits.{up_pos, down_pos}
 use lib.Ieee.Scale.{round_same}
@@ -19,7 +18,7 @@ use Rattle.floats.proofs.Order.{zero_of}
 use Rattle.floats.proofs.Whole.{whole_le}
 use Rattle.boxes.specs.declared.Box.{Box}
 use Rattle.iou.specs.declared.Distance.TheVariants.{Value}
-use Rattle.iou.specs.Boxes.{bad_box, area_of, intersection_of, union_of, away_of, distance_of, iou_distance_of}
+use Rattle.iou.specs.Boxes.{bad_box, intersection_of, away_of, distance_of, iou_distance_of}
 use Rattle.iou.specs.Whole.{Corners, InRange, HasCorners, area_z, overlap_z, intersection_z, union_z}
 use Rattle.iou.proofs.Integers.{gap, overlap_after, overlap_before}
 use Rattle.iou.proofs.Exact.{intersection_exact, union_exact}

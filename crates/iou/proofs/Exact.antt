@@ -1,13 +1,13 @@
 -- With whole-number coordinates from -32,767 to 32,767 no area step rounds. Assumes nothing.
-use mathlib.Core.Path.{◌≡◌, refl, sym, ap, ◌∙◌, subst}
+use mathlib.Core.Path.{refl}
 use mathlib.Core.Bool.{Bool, true, false, cond, ◌||◌}
-use Prim.Native.Nat.{ℕ, ◌+◌, ◌*◌, ◌^◌, ◌≤◌}
+use Prim.Native.Nat.{◌≤◌}
 use native.Mathlib.Nat.{mul-le-mul}
 use native.Mathlib.Omega.{arith}
 use lib.IntN.{ℤ, pos, nat_abs, ◌+ℤ◌, ◌-ℤ◌, ◌*ℤ◌}
 use lib.Signed.{lt_z}
-use lib.Ieee.{Float, binary64, sub, mul, lt}
-use Rattle.floats.specs.Float.{zero64, min_of, max_of}
+use lib.Ieee.{Float, binary64, sub, mul}
+use Rattle.floats.specs.Float.{zero64}
 use Rattle.floats.specs.Whole.{IsWhole, min_z, max_z}
 use Rattle.floats.proofs.Whole.{at_value, whole_add, whole_sub, whole_mul, whole_lt, whole_min, whole_max}
 use Rattle.boxes.specs.declared.Box.{Box}

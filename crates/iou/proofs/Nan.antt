@@ -1,12 +1,11 @@
 -- A NaN coordinate makes its box's area a NaN, and that decides both measures, whatever the intersection is. Assumes nothing.
-use mathlib.Core.Path.{◌≡◌, refl, sym, ap, ◌∙◌}
-use mathlib.Core.Bool.{Bool, true, false, cond, ◌||◌, true≢false, false≢true}
+use mathlib.Core.Path.{◌≡◌, refl, ap, ◌∙◌}
+use mathlib.Core.Bool.{Bool, true, false, cond, ◌||◌, true≢false}
 use lib.Ieee.{Float, nan, inf, fin, Format, binary64, add, sub, mul, div, eq, lt, is_nan}
 use Rattle.floats.specs.Float.{min_of, max_of, zero64}
 use Rattle.floats.proofs.Tests.{is_nan_lem}
 use Rattle.boxes.specs.declared.Box.{Box}
-use Rattle.iou.specs.declared.Distance.{Distance}
-use Rattle.iou.specs.declared.Distance.TheVariants.{Refused, Value}
+use Rattle.iou.specs.declared.Distance.TheVariants.{Value}
 use Rattle.iou.specs.Boxes.{bad_box, any_nan, area_of, rectangle_of, intersection_of, union_of, away_of, distance_of, iou_distance_of, clamped_of, shared_of, quotient_of, iou_share_of}
 
 -- ---- a NaN goes through every step

@@ -1,6 +1,5 @@
 -- Boxes whose coordinates are whole numbers from -32,767 to 32,767, and their areas over the integers.
-use Rattle.std.specs.Prelude.{ℕ, ◌≤◌, cond, ℤ, pos, nat_abs, ◌+ℤ◌, ◌-ℤ◌, ◌*ℤ◌}
-use Rattle.std.specs.Int.Signed.{lt_z}
+use Rattle.std.specs.Prelude.{◌≤◌, ℤ, pos, nat_abs, ◌+ℤ◌, ◌-ℤ◌, ◌*ℤ◌}
 use Rattle.floats.specs.Whole.{IsWhole, min_z, max_z}
 use Rattle.boxes.specs.declared.Box.{Box}
 

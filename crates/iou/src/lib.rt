@@ -1,5 +1,7 @@
 // How much of their area two boxes share: as a distance, and as iou_matrix has it.
 // Ported from norfair-rs, internal/motmetrics/iou.rs, which follows py-motmetrics (NOTICE).
+#![tactic(auto)]
+
 ghost use Rattle.std.specs.Prelude.{◌≡◌, false};
 ghost use Rattle.iou.specs.Boxes.{any_nan, area_of, intersection_of, distance_of, Answered, shared_of, iou_share_of};
 
@@ -7,7 +9,7 @@ use boxes::{Box, area, is_bad};
 use sides::{clamp, lower, rectangle, upper};
 
 // What iou_distance answers: refusal 4, or a distance.
-#[derive(Drop)]
+#[derive(Clone, Copy)]
 pub enum Distance {
     Refused,
     Value(f64),
