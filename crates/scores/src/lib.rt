@@ -1,6 +1,8 @@
 // Scores over a tally of events, for both accumulators of events.
 // Ported from norfair-rs, internal/motmetrics/accumulator.rs, which follows py-motmetrics, metrics/accumulator.rs and
 // metrics/evaluation.rs (NOTICE).
+#![tactic(auto)]
+
 ghost use Rattle.std.specs.Prelude.{◌≡◌, ◌≤◌};
 ghost use Rattle.scores.specs.Scores.{Few, count64, pairs_of, ratio_of, mean_of, f1_of, precision_of, recall_of, mota_of};
 
