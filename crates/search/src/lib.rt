@@ -1,4 +1,6 @@
 // Steps D to G of the search. The square lies at stride 64; in the tables n or more is no partner; sets of rows and columns are marks.
+#![tactic(auto)]
+
 ghost use Rattle.std.specs.Prelude.{◌≡◌, false, ℕ, ◌*◌, ◌≤◌, ◌<◌, List, length};
 ghost use Rattle.square.specs.Index.{on};
 ghost use Rattle.paths.specs.State.{state, Ok};
@@ -100,7 +102,7 @@ fn spread(
 }
 
 // How many corrections were made, and whether the minimum was of no use in the end.
-#[derive(Drop)]
+#[derive(Clone, Copy)]
 pub struct Corrections {
     pub times: usize,
     pub stuck: bool,
@@ -138,7 +140,7 @@ fn correct(
 }
 
 // How many corrections and path changes were made.
-#[derive(Drop)]
+#[derive(Clone, Copy)]
 pub struct Counts {
     pub corrections: usize,
     pub paths: usize,
