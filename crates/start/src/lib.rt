@@ -1,5 +1,7 @@
 // Steps A to C of the search: the padded square, the minima taken off, the first pass.
 // The square lies at stride 64; in the tables n or more is no partner.
+#![tactic(auto)]
+
 ghost use Rattle.std.specs.Prelude.{◌≡◌, ℕ, ◌+◌, ◌*◌, ◌≤◌, ◌<◌, max, length, get_or, replicate};
 ghost use Rattle.std.specs.Float.{nan};
 ghost use Rattle.floats.specs.Float.{zero64};
