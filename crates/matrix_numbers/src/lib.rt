@@ -1,5 +1,7 @@
 // The numbers of the two matrices: too many boxes, a bad box, too little room; and the boxes of a run of floats.
 // Ported from norfair-rs, internal/motmetrics/iou.rs, which follows py-motmetrics (NOTICE).
+#![tactic(auto)]
+
 ghost use Rattle.std.specs.Prelude.{◌≡◌, ◌/◌, ◌<◌, ◌≤◌, length};
 ghost use Rattle.matrix_numbers.specs.Numbers.{box_at, any_bad, any_read_bad, shape_no, room_no, distance_matrix_no, iou_matrix_no};
 
