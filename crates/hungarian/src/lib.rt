@@ -1,5 +1,7 @@
 // Steps A to G over a matrix of costs: which column each row gets, and how many corrections and paths it took.
 // From internal/scipy/optimize.rs.
+#![tactic(auto)]
+
 ghost use Rattle.std.specs.Prelude.{◌≡◌, ◌*◌, ◌≤◌, max, length, replicate};
 ghost use Rattle.floats.specs.Float.{zero64};
 ghost use Rattle.hungarian.specs.Solved.{Solved};
