@@ -1,26 +1,28 @@
 // Ids in order of first appearance, in the first places of a run that is lent.
 // Ported from norfair-rs, metrics/accumulator.rs (NOTICE): a run with a used count where the Rust has a hash set.
+#![tactic(auto)]
+
 ghost use Rattle.std.specs.Prelude.{◌≡◌, ◌≤◌, ◌<◌, length, take};
 ghost use Rattle.seen.specs.Seen.{place_of, used_with, seen_all, seen_of, run_after, hypotheses_of, new_hypotheses, seen_hypotheses, ids_up_to, hypotheses_sound};
 
 use ids::Lookup;
 
 // How many places are used in the end, and whether an id found none.
-#[derive(Drop)]
+#[derive(Clone, Copy)]
 pub struct Seen {
     pub used: usize,
     pub full: bool,
 }
 
 // Hypothesis ids in the first used places, in order of first appearance.
-#[derive(Drop)]
+#[derive(Clone, Copy)]
 pub struct Hypotheses {
     pub ids: [i32; 1024],
     pub used: usize,
 }
 
 // The hypotheses with a frame's: full where they would be more than 1,024, and then those that came.
-#[derive(Drop)]
+#[derive(Clone, Copy)]
 pub struct SeenHypotheses {
     pub full: bool,
     pub hypotheses: Hypotheses,
