@@ -1,5 +1,7 @@
 // The rows of a frame, and what the booking of one does to a table of slots.
 // Ported from norfair-rs, internal/motmetrics/accumulator.rs, which follows py-motmetrics (NOTICE).
+#![tactic(auto)]
+
 ghost use Rattle.std.specs.Prelude.{◌≡◌, ◌+◌, ◌<◌, ◌≤◌, length};
 ghost use Rattle.rows.specs.Rows.{new_state, Lies, row_at, spot_of, step_of};
 
@@ -7,7 +9,7 @@ use ids::Lookup;
 use slots::{Partner, Slot};
 
 // What an accumulator has counted so far, and its table: the first used slots, in order of first booking.
-#[derive(Drop)]
+#[derive(Clone, Copy)]
 pub struct ExtendedMOTAccumulator {
     pub slots: [Slot; 256],
     pub used: usize,
@@ -41,14 +43,14 @@ impl ExtendedMOTAccumulator {
 }
 
 // A truth row: its id, and the id of the prediction that it is matched to, or nobody where it is missed.
-#[derive(Drop)]
+#[derive(Clone, Copy)]
 pub struct Row {
     pub id: i32,
     pub to: Partner,
 }
 
 // Where a row is booked: at the place of its id, at a fresh one after the used ones, or nowhere.
-#[derive(Drop)]
+#[derive(Clone, Copy)]
 pub struct Spot {
     pub at: usize,
     pub fresh: bool,
@@ -56,7 +58,7 @@ pub struct Spot {
 }
 
 // What a row does to the table: the slot that stands at its spot then, and how many places are used.
-#[derive(Drop)]
+#[derive(Clone, Copy)]
 pub struct Step {
     pub slot: Slot,
     pub used: usize,
@@ -66,7 +68,7 @@ pub struct Step {
 }
 
 // A trial booking, which never stops: full where a new id found no place, over where a count would have passed.
-#[derive(Drop)]
+#[derive(Clone, Copy)]
 pub struct Trial {
     pub state: ExtendedMOTAccumulator,
     pub full: bool,
