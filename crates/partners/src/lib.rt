@@ -1,6 +1,8 @@
 // Truth ids and the hypotheses that they were last matched to; the ids that were seen.
 // Ported from norfair-rs, internal/motmetrics/accumulator.rs, which follows py-motmetrics, and metrics/accumulator.rs
 // (NOTICE): arrays with a used count where the Rust has hash maps and sets.
+#![tactic(auto)]
+
 ghost use Rattle.std.specs.Prelude.{◌≡◌, ◌++◌, ◌-◌, ◌≤◌, take, replicate};
 ghost use Rattle.seen.specs.Seen.{over};
 ghost use Rattle.partners.specs.Partners.{nobody, truths_of, new_truths, ids_sound, truths_sound, seen_truths};
@@ -8,13 +10,13 @@ ghost use Rattle.partners.specs.Partners.{nobody, truths_of, new_truths, ids_sou
 use slots::Partner;
 
 // The hypothesis that a truth id was last matched to, or nobody. (A struct, as an array in a table holds no enum.)
-#[derive(Drop)]
+#[derive(Clone, Copy)]
 pub struct Last {
     pub partner: Partner,
 }
 
 // Truth ids in the first used places, in order of first booking, each with its last partner.
-#[derive(Drop)]
+#[derive(Clone, Copy)]
 pub struct Truths {
     pub ids: [i32; 256],
     pub lasts: [Last; 256],
@@ -23,7 +25,7 @@ pub struct Truths {
 
 // What the pairs of a frame come to: full where a new id would find no place, and then the table that came and no switch.
 // Else the table after them, and for each pair, by its number, whether it is a switch.
-#[derive(Drop)]
+#[derive(Clone, Copy)]
 pub struct Booked {
     pub full: bool,
     pub truths: Truths,
@@ -31,7 +33,7 @@ pub struct Booked {
 }
 
 // The table with a frame's truth ids: full where they would be more than 256, and then the table that came.
-#[derive(Drop)]
+#[derive(Clone, Copy)]
 pub struct SeenTruths {
     pub full: bool,
     pub truths: Truths,
