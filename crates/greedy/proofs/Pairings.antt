@@ -1,7 +1,7 @@
 -- What a caller reads off a pairing: its pairs, how many rows and columns are left, and that each is named once. Assumes nothing.
-use mathlib.Core.Path.{◌≡◌, refl, sym, ap, ◌∙◌, subst}
-use mathlib.Core.List.{List, ◌++◌, map}
-use Prim.Native.Nat.{ℕ, suc, ◌+◌, ◌*◌, ◌<◌, ◌≤◌, ◌/◌, ◌%◌, ◌-◌}
+use mathlib.Core.Path.{◌≡◌, sym, subst}
+use mathlib.Core.List.{List, ◌++◌}
+use Prim.Native.Nat.{ℕ, ◌*◌, ◌<◌, ◌≤◌, ◌/◌, ◌%◌, ◌-◌}
 use native.Mathlib.Omega.{arith}
 use lib.ListN.{length, get_or, take, replicate, length-append, length-map, length-replicate, get_or-append}
 use lib.Seq.{take-append_seam, length-take-le, get_or-take}

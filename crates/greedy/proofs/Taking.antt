@@ -14,7 +14,7 @@ use Rattle.square.proofs.Gather.{fill_one}
 use Rattle.sorting.specs.Order.{Each}
 use Rattle.sorting.proofs.Permutes.{each_at}
 use Rattle.greedy.specs.declared.Pairing.{Pairing}
-use Rattle.greedy.specs.Greedy.{both_free, taken, taken_of, none, rows_of, cols_of, marked, pairing_with, pairing_of}
+use Rattle.greedy.specs.Greedy.{both_free, taken, taken_of, none, rows_of, cols_of, marked, pairing_of}
 use Rattle.greedy.proofs.Marks.{Fresh, marked_more, counted}
 
 -- ---- a pair's ends

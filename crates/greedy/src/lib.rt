@@ -1,12 +1,14 @@
 // Pairs of a row and a column, taken in the order in which they come, each if both its ends are free. For modules 3 and 4 alike.
 // Ported from norfair-rs, internal/motmetrics/accumulator.rs and metrics/accumulator.rs (NOTICE): marks where the Rust has hash sets.
+#![tactic(auto)]
+
 ghost use Rattle.std.specs.Prelude.{◌≡◌, not, ◌&&◌, ◌*◌, ◌<◌, ◌≤◌, ◌/◌, ◌%◌};
 ghost use Rattle.square.specs.Index.{on};
 ghost use Rattle.sorting.specs.Order.{Each};
 ghost use Rattle.greedy.specs.Greedy.{pairing_of};
 
 // The pairs taken, in that order, as places of a matrix, row by row; and the marks of their rows and columns.
-#[derive(Drop)]
+#[derive(Clone, Copy)]
 pub struct Pairing {
     pub pairs: [u32; 64],
     pub used: usize,
