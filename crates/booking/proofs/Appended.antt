@@ -4,7 +4,7 @@ use mathlib.Core.List.{List, ◌++◌}
 use Prim.Native.Nat.{ℕ, ◌+◌, ◌<◌, ◌≤◌}
 use native.Mathlib.Omega.{arith}
 use lib.ListN.{length, get_or, take, drop, length-append, get_or-append}
-use lib.Seq.{sets, sets-eq, length-sets, take_at, drop_at, length-take-le}
+use lib.Seq.{sets-eq, length-sets, take_at, drop_at, length-take-le}
 use Rattle.events.specs.declared.Event.{Event}
 use Rattle.events.specs.declared.Log.{Log}
 use Rattle.events.specs.Events.{logged, no_event}

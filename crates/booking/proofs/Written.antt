@@ -1,16 +1,16 @@
 -- The events of a frame, written one after the other at the end of a log. Assumes nothing.
 use mathlib.Core.Path.{◌≡◌, refl, sym, ap, ◌∙◌, subst}
-use mathlib.Core.Bool.{Bool, true, not}
-use mathlib.Core.List.{List, [], ◌∷◌, ◌++◌, map}
-use Prim.Native.Nat.{ℕ, suc, ◌+◌, ◌*◌, ◌-◌, ◌<◌, ◌≤◌}
+use mathlib.Core.Bool.{Bool, not}
+use mathlib.Core.List.{List, [], ◌∷◌, ◌++◌}
+use Prim.Native.Nat.{ℕ, suc, ◌+◌, ◌-◌, ◌<◌, ◌≤◌}
 use native.Mathlib.Omega.{arith}
-use native.Mathlib.Nat.{add-zero, add-suc, suc-add}
+use native.Mathlib.Nat.{add-zero}
 use native.Mathlib.Numerals.{add-one}
 use lib.IntN.{ℤ}
-use lib.ListN.{length, get_or, set, take, replicate, get_or-append}
+use lib.ListN.{length, get_or, set, replicate, get_or-append}
 use lib.Seq.{sets}
 use lib.Ieee.{Float}
-use Rattle.square.specs.Index.{gather, filled, on}
+use Rattle.square.specs.Index.{filled, on}
 use Rattle.square.proofs.Gather.{gather-map, gather-length, gather_at, which}
 use Rattle.events.specs.declared.Event.{Event}
 use Rattle.events.specs.declared.Log.{Log}

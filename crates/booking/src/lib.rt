@@ -1,5 +1,7 @@
 // The events of a frame whose pairing is handed in, written at the end of a log. For modules 3 and 4 alike.
 // Ported from norfair-rs, internal/motmetrics/accumulator.rs and metrics/accumulator.rs (NOTICE).
+#![tactic(auto)]
+
 ghost use Rattle.std.specs.Prelude.{◌≡◌, not, ◌+◌, ◌*◌, ◌-◌, ◌<◌, ◌≤◌, length};
 ghost use Rattle.square.specs.Index.{filled};
 ghost use Rattle.greedy.specs.Greedy.{left_of, Fitting};
