@@ -1,11 +1,11 @@
 -- The areas of a run's boxes, written one after the other. Assumes nothing.
-use mathlib.Core.Path.{◌≡◌, sym, ap, ◌∙◌}
+use mathlib.Core.Path.{◌≡◌, ◌∙◌}
 use mathlib.Core.Logic.{inl, inr}
 use mathlib.Core.List.{List}
 use Prim.Native.Nat.{ℕ, ◌+◌, ◌<◌}
 use native.Mathlib.Nat.{eq-or-lt_of_le, le_of_suc-le-suc, ne_of_lt}
 use native.Mathlib.Numerals.{add-one}
-use lib.ListN.{length, get_or, set}
+use lib.ListN.{length, set}
 use lib.Seq.{get_or-set_same, get_or-set_other}
 use lib.Ieee.{Float, nan}
 use Rattle.iou.specs.Boxes.{area_of}

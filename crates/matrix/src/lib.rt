@@ -1,5 +1,7 @@
 // The two matrices over runs of box floats, written row by row.
 // Ported from norfair-rs, internal/motmetrics/iou.rs, which follows py-motmetrics (NOTICE).
+#![tactic(auto)]
+
 ghost use Rattle.std.specs.Prelude.{◌≡◌, ◌*◌, ◌/◌, ◌≤◌, length};
 ghost use Rattle.iou.specs.Boxes.{area_of};
 ghost use Rattle.matrix.specs.Matrix.{AreasOf, measured_of, row_of, matrix_of, overwrite, distance_matrix_no, iou_matrix_no, matrix_after};
@@ -9,7 +11,7 @@ use iou::{box_distance, box_share};
 use matrix_numbers::{box_at, distance_matrix_number, iou_matrix_number};
 
 // Which matrix is written.
-#[derive(Drop)]
+#[derive(Clone, Copy)]
 pub enum Measure {
     Away,
     Shared,
