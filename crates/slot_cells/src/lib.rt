@@ -1,4 +1,6 @@
 // A slot as nine numbers, one for each column of a table that is lent as a run of numbers.
+#![tactic(auto)]
+
 ghost use Rattle.std.specs.Prelude.{◌≡◌};
 ghost use Rattle.slot_cells.specs.Cells.{is_set, flag_of, known_of, partner_id, partner_of, slot_of, cells_of};
 
@@ -6,7 +8,7 @@ use lifecycle::TrackLifecycle;
 use slots::{Partner, Slot};
 
 // The nine numbers of a slot, one of each column. A flag is 0 or not; a partner counts where it is known.
-#[derive(Drop)]
+#[derive(Clone, Copy)]
 pub struct Cells {
     pub id: i32,
     pub first: i32,
