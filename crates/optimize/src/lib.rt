@@ -1,18 +1,20 @@
 // The assignment search over a matrix of costs, and what of its pairs passes max_cost. From internal/scipy/optimize.rs.
 // A matrix is one run, row after row; lists stand in 64 places with a count of those used, zeros behind them.
+#![tactic(auto)]
+
 ghost use Rattle.std.specs.Prelude.{◌≡◌, false, ◌+◌, ◌*◌, ◌≤◌, length, replicate};
 ghost use Rattle.optimize.specs.Answer.{assignment_no, passes_of, result_of, empty_of, rows_alone, Answered};
 ghost use Rattle.optimize.specs.Inner.{Listed};
 
 use search::Counts;
 
-#[derive(Drop)]
+#[derive(Clone, Copy)]
 pub struct Assignment {
     pub row_idx: usize,
     pub col_idx: usize,
 }
 
-#[derive(Drop)]
+#[derive(Clone, Copy)]
 pub struct AssignmentResult {
     pub number: u32,
     pub assignments: [Assignment; 64],
@@ -54,7 +56,7 @@ pub fn passes(cost: &[f64], cols: usize, max_cost: f64, row: usize, col: usize) 
     false
 }
 
-#[derive(Drop)]
+#[derive(Clone, Copy)]
 pub struct Kept {
     pub assignments: [Assignment; 64],
     pub used: usize,
