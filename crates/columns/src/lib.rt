@@ -1,5 +1,7 @@
 // A table of slots as one lent run of numbers, nine columns of as many places as the table has: the form in which a state is
 // changed in place and goes over the border to C.
+#![tactic(auto)]
+
 ghost use Rattle.std.specs.Prelude.{◌≡◌, length};
 ghost use Rattle.columns.specs.Columns.{Within, cells_at, put};
 
