@@ -1,10 +1,12 @@
 // The counters of the extended accumulator's state beside its table, and what a frame does to them.
 // Ported from norfair-rs, internal/motmetrics/accumulator.rs, which follows py-motmetrics (NOTICE).
+#![tactic(auto)]
+
 ghost use Rattle.std.specs.Prelude.{◌≡◌, true, ◌&&◌, []};
 ghost use Rattle.totals.specs.Totals.{totals_sound, new_totals, state_with, Few, next_frame, room_for_all, raised_totals};
 
 // What a frame adds to each of the six counters.
-#[derive(Drop)]
+#[derive(Clone, Copy)]
 pub struct Shares {
     pub matches: usize,
     pub misses: usize,
@@ -14,7 +16,7 @@ pub struct Shares {
 }
 
 // What a state holds beside its table.
-#[derive(Drop)]
+#[derive(Clone, Copy)]
 pub struct Totals {
     pub used: usize,
     pub frame_id: i32,
@@ -45,6 +47,7 @@ impl Totals {
 }
 
 // The number of the frame to come. At the last number it stays: such a frame is refused in the end.
+#[tactic(auto, unfolding(crate::specs::Totals::next_frame), using(counts::proofs::Ids::back))]
 pub fn next_frame(frame_id: i32) -> i32
     ensures { result ≡ next_frame frame_id }
 {
@@ -74,6 +77,7 @@ fn both(a: bool, b: bool) -> bool
 }
 
 // Whether each counter can take its share of a frame.
+#[tactic(auto, unfolding(crate::specs::Totals::room_for_all), using(counts::proofs::Ids::back))]
 pub fn room_for_all(t: Totals, by: Shares) -> bool
     requires { Few by }
     ensures { result ≡ room_for_all (state_with [] t) by }
@@ -104,6 +108,7 @@ pub fn raised_by(t: Totals, by: Shares, distance: f64) -> Totals
 }
 
 // Whether none of the six counters is negative.
+#[tactic(auto, unfolding(crate::specs::Totals::totals_sound), using(counts::proofs::Ids::back))]
 pub fn totals_sound(t: Totals) -> bool
     ensures { result ≡ totals_sound (state_with [] t) }
 {
