@@ -1,12 +1,11 @@
 -- Every state that machine values stand for has tables of 256 and of 1,024 places, so the plain reading of refusal 1 is of every state that
 -- the code is handed. `Is` is the relation that every argument of a proved function stands in. Assumes nothing.
-use mathlib.Core.Path.{◌≡◌, sym, ◌∙◌}
+use mathlib.Core.Path.{◌≡◌}
 use mathlib.Core.Bool.{true}
 use mathlib.Core.List.{List}
-use lib.ListN.{length, length-map}
+use lib.ListN.{length}
 use mir.Val.{Val}
 use denote.Laws.{Is}
-use denote.Struct.Field.{i32-field}
 use Rattle.metrics.specs.declared.MOTAccumulator.{MOTAccumulator}
 use Rattle.metrics.specs.State.{sound_state}
 use Rattle.metrics.specs.Sound.{SoundState}
@@ -15,10 +14,10 @@ use Rattle.metrics.proofs.Faults.{state_reads, state_is}
 
 module _ (s : MOTAccumulator) (vs : List Val) (h : Is states.the_row s vs) where
   truths_long : length s.truths.ids ≡ 256
-  truths_long = sym (length-map s.truths.ids i32-field.into) ∙ h.1.1.1.0.1.1.0.1.0.1
+  truths_long = h.1.1.1.0.1.1.0.1.0.1
 
   hypotheses_long : length s.hypotheses.ids ≡ 1024
-  hypotheses_long = sym (length-map s.hypotheses.ids i32-field.into) ∙ h.1.1.1.1.0.1.1.0.1.0.1
+  hypotheses_long = h.1.1.1.1.0.1.1.0.1.0.1
 
   -- REFUSAL 1, EXACTLY, OF EVERY STATE THAT THE CODE HOLDS
   pub sound_has : sound_state s ≡ true → SoundState s

@@ -1,5 +1,7 @@
 // The accumulator of the public module: its state, its counts, MOTA and MOTP.
 // Ported from norfair-rs, metrics/accumulator.rs (NOTICE).
+#![tactic(auto)]
+
 ghost use Rattle.std.specs.Prelude.{◌≡◌, true};
 ghost use Rattle.scores.specs.Scores.{Few};
 ghost use Rattle.events.specs.Events.{logged, tally_of};
@@ -12,14 +14,14 @@ use partners::Truths;
 use seen::Hypotheses;
 
 // The events so far; the truth ids seen, each with its last partner; and the hypothesis ids seen.
-#[derive(Drop)]
+#[derive(Clone, Copy)]
 pub struct MOTAccumulator {
     pub log: Log,
     pub truths: Truths,
     pub hypotheses: Hypotheses,
 }
 
-#[derive(Drop)]
+#[derive(Clone, Copy)]
 pub enum EventType {
     Match,
     FalsePositive,
@@ -28,13 +30,13 @@ pub enum EventType {
 }
 
 // A number, and a count or a score; beside a refusal it is 0.
-#[derive(Drop)]
+#[derive(Clone, Copy)]
 pub struct Count {
     pub number: u32,
     pub value: usize,
 }
 
-#[derive(Drop)]
+#[derive(Clone, Copy)]
 pub struct Score {
     pub number: u32,
     pub value: f64,
