@@ -1,23 +1,25 @@
 // A lifecycle as words, and the requests of one (oracle/PROTOCOL.md).
+#![tactic(auto)]
+
 use lifecycle::{TrackLifecycle, Updated};
 use lines::input::Reader;
 use lines::output::Writer;
 use lines::session::{Reply, Session, ended, refused, say_whole};
 use lines::{input, output};
 
-#[derive(Drop)]
+#[derive(Clone, Copy)]
 pub struct ReadFlag {
     pub value: bool,
     pub reader: Reader,
 }
 
-#[derive(Drop)]
+#[derive(Clone, Copy)]
 pub struct ReadLifecycle {
     pub lifecycle: TrackLifecycle,
     pub reader: Reader,
 }
 
-#[derive(Drop)]
+#[derive(Clone, Copy)]
 struct ReadCall {
     lifecycle: TrackLifecycle,
     frame: i32,
