@@ -1,6 +1,8 @@
 // A table of slots: the ids that are in it, and whether refusal 1 lets it by.
 // Ported from norfair-rs, internal/motmetrics/accumulator.rs, which follows py-motmetrics (NOTICE): arrays with a used
 // count where the Rust has two hash maps.
+#![tactic(auto)]
+
 ghost use Rattle.std.specs.Prelude.{◌≡◌, ◌≤◌, length};
 ghost use Rattle.slots.specs.Slots.{ids_filled, sound_of};
 
