@@ -1,6 +1,8 @@
 // The pairs of a frame, booked in the table of truth ids and their last partners: which of them are switches.
 // Ported from norfair-rs, internal/motmetrics/accumulator.rs, which follows py-motmetrics, and metrics/accumulator.rs
 // (NOTICE).
+#![tactic(auto)]
+
 ghost use Rattle.std.specs.Prelude.{◌≡◌, ℕ, ◌*◌, ◌<◌, ◌≤◌, length, get_or};
 ghost use Rattle.partners.specs.Partners.{truths_of, last_in, pairs_of, booked_of};
 
