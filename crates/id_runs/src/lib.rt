@@ -1,4 +1,6 @@
 // Steps over lent runs of ids: whether ids find room, numbers written and cleared, the ids of a frame's pairs.
+#![tactic(auto)]
+
 ghost use Rattle.std.specs.Prelude.{◌≡◌, [], ◌∷◌, ◌++◌, ℕ, ◌+◌, ◌*◌, ◌<◌, ◌≤◌, length, take, get_or};
 ghost use Rattle.columns.specs.Columns.{put_all};
 ghost use Rattle.ids.specs.Ids.{seek_of, is_absent};
