@@ -1,5 +1,7 @@
 // The rows of a frame, booked in a table of slots on a copy of the state: what would come of the frame, before anything of it is kept.
 // Ported from norfair-rs, internal/motmetrics/accumulator.rs, which follows py-motmetrics (NOTICE).
+#![tactic(auto)]
+
 ghost use Rattle.std.specs.Prelude.{◌≡◌, ◌+◌, ◌≤◌, length};
 ghost use Rattle.rows.specs.Rows.{Lies, row_at, trial_after};
 
