@@ -16,10 +16,10 @@ COMMANDS = {
     "port": [str(HERE / "port")],
     "native": [str(OUT / "native" / "answers")],
 }
-NEEDS = {"second": COMMANDS["second"][-1], "rust": COMMANDS["rust"][0], "port": HERE.parent / "target/bin/answers",
+NEEDS = {"second": COMMANDS["second"][-1], "rust": COMMANDS["rust"][0], "port": HERE.parent / "crates/answers/out/answers",
          "native": COMMANDS["native"][0]}
 MAKES = {"second": "it belongs here", "rust": "oracle/build makes it",
-         "port": "rt check answers makes it (or --without-port)", "native": "oracle/native makes it"}
+         "port": "rt run in crates/answers makes it, or rt ci (or --without-port)", "native": "oracle/native makes it"}
 ENDED = "no answer"
 
 
