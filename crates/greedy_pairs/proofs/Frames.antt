@@ -1,5 +1,5 @@
 -- From the list of places to the pairs of a frame. Assumes nothing.
-use mathlib.Core.Path.{◌≡◌, sym, ap, ◌∙◌, subst}
+use mathlib.Core.Path.{◌≡◌, sym, ap, ◌∙◌}
 use mathlib.Core.Bool.{Bool, true, false}
 use mathlib.Core.List.{List, ◌++◌, map}
 use Prim.Native.Nat.{ℕ, ◌*◌, ◌<◌, ◌≤◌}
@@ -13,7 +13,7 @@ use Rattle.sorting.specs.Order.{Each, Rising, Numbers, key_of, ascending, descen
 use Rattle.sorting.specs.Sort.{sort_of, fall_of}
 use Rattle.sorting.proofs.Permutes.{each_still}
 use Rattle.sorting.proofs.Sorts.{sorts}
-use Rattle.sorting.proofs.Falls.{neg_numbers, falls}
+use Rattle.sorting.proofs.Falls.{falls}
 use Rattle.sorting.proofs.Places.{ties_by_number}
 use Rattle.greedy.specs.Greedy.{taken_of, none, rows_of, cols_of, left_of, Fitting}
 use Rattle.greedy.proofs.Taking.{each_taken}

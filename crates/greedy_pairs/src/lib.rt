@@ -1,5 +1,7 @@
 // How the two greedy accumulators pair a frame: module 3 by rising distance, module 4 by falling IoU. One sort and one taking for both.
 // Ported from norfair-rs, internal/motmetrics/accumulator.rs and metrics/accumulator.rs (NOTICE).
+#![tactic(auto)]
+
 ghost use Rattle.std.specs.Prelude.{◌≡◌, map, ◌*◌, ◌<◌, ◌≤◌, length, take};
 ghost use Rattle.std.specs.Float.{binary64};
 ghost use Rattle.std.specs.Float.Ieee.{neg, add, sub, le};
