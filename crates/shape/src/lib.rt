@@ -1,4 +1,6 @@
 // The numbers 2 and 3 of a frame of ids and boxes, for every accumulator that is given both.
+#![tactic(auto)]
+
 ghost use Rattle.std.specs.Prelude.{◌≡◌};
 ghost use Rattle.shape.specs.Shape.{size_no, fit_no, shape_no};
 
