@@ -1,12 +1,14 @@
 // A log of events as two lent runs of numbers: the form in which a log is changed in place and goes over the border to C.
 // Four columns of 1,024 whole numbers, frame, kind, truth and hypothesis, and one of 1,024 distances.
+#![tactic(auto)]
+
 ghost use Rattle.std.specs.Prelude.{◌≡◌, length, set};
 ghost use Rattle.event_columns.specs.Columns.{what_of, event_of, cells_of, Within, cells_at, put_numbers};
 
 use events::{Event, What};
 
 // The five numbers of an event, one of each column. Kinds: 0 match, 1 switch, 2 miss, any other a false positive.
-#[derive(Drop)]
+#[derive(Clone, Copy)]
 pub struct Cells {
     pub frame: i32,
     pub kind: i32,
