@@ -1,15 +1,15 @@
 -- Where the lists of the solver's answer lie: rows below h, columns below w, and no more of them than there are. Assumes nothing.
 use Prim.Native.Nat.{ℕ, zero, suc, ◌+◌, ◌<◌, ◌≤◌}
 use mathlib.Core.Path.{◌≡◌, refl, sym, ap, ◌∙◌, subst}
-use mathlib.Core.Bool.{Bool, true}
+use mathlib.Core.Bool.{true}
 use mathlib.Core.List.{List, [], ◌∷◌, ◌++◌, map}
 use mathlib.Core.Logic.{⊎_elim}
 use native.Mathlib.Omega.{arith}
 use native.Mathlib.Nat.{not-suc-le-zero}
-use lib.ListN.{length, get_or, take, replicate, length-append, get_or-append, get_or-eq_default}
+use lib.ListN.{length, get_or, take, length-append, get_or-append, get_or-eq_default}
 use lib.Seq.{get_or-take, get_or-append-add}
 use lib.Ieee.{Float}
-use Rattle.square.specs.Index.{Once, count, gather, filled}
+use Rattle.square.specs.Index.{Once, gather, filled}
 use Rattle.square.proofs.Index.{lt-or-ge}
 use Rattle.square.proofs.Count.{count_all}
 use Rattle.square.proofs.Gather.{gather_at, gather-length}

@@ -1,4 +1,6 @@
 // The solver, its promise an equation: what stands above it needs no uniqueness theorem of its own.
+#![tactic(auto)]
+
 ghost use Rattle.std.specs.Prelude.{◌≡◌};
 ghost use Rattle.solver.specs.Solution.{solution_of};
 
