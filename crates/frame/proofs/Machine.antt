@@ -33,7 +33,7 @@ lifecycle_fits t vs h =
       fits_i32 t.fragmentations (record { sfits = counts.1.1.0.1 }),
     )
 
-slots_fit : (l : List Slot) (us : List Val) → shadow (each _ (declared.field slots.the_type).row.own_val (map (declared.field slots.the_type).into l) us)
+slots_fit : (l : List Slot) (us : List Val) → shadow (each slots.the_row.Denot slots.the_row.own_val l us)
     → (i : ℕ) → counts_fit (get_or l i no_slot).lifecycle ≡ true
 slots_fit [] us h i = new_fits (pos 0) (pos 0)
 slots_fit (x ∷ xs) [] h i = absurd h
@@ -45,6 +45,6 @@ pub held : (s : ExtendedMOTAccumulator) (vs : List Val) → Is states.the_row s 
 held s vs h =
     let table = h.1.1.0 in
     record {
-      long = sym (length-map s.slots (declared.field slots.the_type).into) ∙ table.1.0.1;
+      long = table.1.0.1;
       fit = λ i p. slots_fit s.slots table.0 table.1.1 i;
     }

@@ -1,5 +1,7 @@
 // A frame whose pairing is handed in, booked whole or refused, over a sound state.
 // Ported from norfair-rs, internal/motmetrics/accumulator.rs, which follows py-motmetrics (NOTICE).
+#![tactic(auto)]
+
 ghost use Rattle.std.specs.Prelude.{◌≡◌, ◌≤◌, length};
 ghost use Rattle.rows.specs.Rows.{Lies, row_at};
 ghost use Rattle.frame.specs.Frame.{sound_state, totals_of, state_with, Few, closed, frame_of};
@@ -8,7 +10,7 @@ use rows::{ExtendedMOTAccumulator, Trial};
 use totals::{Shares, Totals};
 
 // The number of a frame, and the state: beside a refusal the one that came.
-#[derive(Drop)]
+#[derive(Clone, Copy)]
 pub struct Booked {
     pub number: u32,
     pub state: ExtendedMOTAccumulator,
