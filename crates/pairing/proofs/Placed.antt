@@ -1,5 +1,5 @@
 -- The pairing that the solver's answer gives, and where its lists lie. Assumes nothing.
-use mathlib.Core.Path.{◌≡◌, refl, sym, ap, ◌∙◌, subst}
+use mathlib.Core.Path.{◌≡◌, sym, ap, ◌∙◌, subst}
 use mathlib.Core.List.{List}
 use Prim.Native.Nat.{ℕ, ◌+◌, ◌*◌, ◌<◌, ◌≤◌}
 use native.Mathlib.Omega.{arith}
@@ -9,7 +9,6 @@ use Rattle.optimize.specs.declared.AssignmentResult.{AssignmentResult}
 use Rattle.solver.specs.Solution.{solution_of}
 use Rattle.optimize.proofs.Number.{taken}
 use Rattle.solver.proofs.Lists.{Placed, solution_placed}
-use Rattle.pairing.specs.declared.Pairing.{Pairing}
 use Rattle.pairing.specs.Pairing.{rows_of, cols_of, sum_of, pairs_in, paired_of}
 use Rattle.pairing.proofs.Sums.{in_run}
 

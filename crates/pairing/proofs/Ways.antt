@@ -1,16 +1,13 @@
 -- The pairing of a frame, by the four ways that the code goes. Assumes nothing.
-use mathlib.Core.Path.{◌≡◌, refl, sym, ap, ◌∙◌, subst}
-use mathlib.Core.Bool.{cond}
+use mathlib.Core.Path.{◌≡◌, refl, sym, ap, ◌∙◌}
 use mathlib.Core.List.{List}
 use Prim.Native.Nat.{ℕ, zero, suc, ◌*◌, ◌/◌, ◌≤◌}
-use native.Mathlib.Omega.{arith}
 use borrow.Author.Tests.{eq-eqb, ne_eqb}
-use lib.Dec.{eqb}
 use lib.ListN.{length, take}
 use lib.Seq.{take_at}
 use lib.Ieee.{Float}
 use Rattle.floats.specs.Float.{zero64}
-use Rattle.matrix.specs.Matrix.{matrix_of, overwrite, matrix_after, distance_matrix_no, any_read_bad}
+use Rattle.matrix.specs.Matrix.{matrix_of, overwrite, matrix_after, distance_matrix_no}
 use Rattle.matrix.specs.declared.Measure.TheVariants.{Away}
 use Rattle.matrix.proofs.Laws.{length_matrix, or_first}
 use Rattle.pairing.specs.declared.Pairing.{Pairing}

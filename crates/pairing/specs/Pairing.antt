@@ -1,5 +1,5 @@
 -- Document 01, "Lifecycles and events" and refusals 2, 3 and 4: how a frame's truth boxes are paired with its predictions.
-use Rattle.std.specs.Prelude.{cond, List, map, ◌≡◌, ℕ, zero, suc, eqb, length, get_or, replicate, Float}
+use Rattle.std.specs.Prelude.{cond, List, map, ℕ, zero, suc, eqb, length, get_or, replicate, Float}
 use Rattle.std.specs.Float.Ieee.{add}
 use Rattle.std.specs.Float.{binary64}
 use Rattle.floats.specs.Float.{zero64}

@@ -1,5 +1,7 @@
 // How a frame's truth boxes are paired with its predictions, or which of the numbers 2, 3 and 4 it gets.
 // Ported from norfair-rs, internal/motmetrics/accumulator.rs, which follows py-motmetrics (NOTICE).
+#![tactic(auto)]
+
 ghost use Rattle.std.specs.Prelude.{◌≡◌, ℕ, ◌+◌, ◌*◌, ◌<◌, ◌≤◌, length, get_or};
 ghost use Rattle.shape.specs.Shape.{shape_no};
 ghost use Rattle.pairing.specs.Pairing.{rows_of, cols_of, sum_of, paired_of, no_pairs, pairing_of};
@@ -8,7 +10,7 @@ use optimize::Assignment;
 
 // The pairs by row and column, the rows that are left, and how many predictions are extra; zeros beyond each count.
 // The distance is the total so far with that of every pair added, in order.
-#[derive(Drop)]
+#[derive(Clone, Copy)]
 pub struct Pairing {
     pub number: u32,
     pub pair_rows: [usize; 64],
