@@ -1,5 +1,7 @@
 // Truth ids with their last partners in a lent run of numbers: what it stands for, and the pairs of a frame booked there.
 // Ported from norfair-rs, internal/motmetrics/accumulator.rs, which follows py-motmetrics, and metrics/accumulator.rs (NOTICE).
+#![tactic(auto)]
+
 ghost use Rattle.std.specs.Prelude.{◌≡◌, false, ℕ, ◌*◌, ◌<◌, ◌≤◌, length, get_or};
 ghost use Rattle.slots.specs.Slots.{switches};
 ghost use Rattle.partners.specs.Partners.{last_in, pairs_of, booked_of};
@@ -10,7 +12,7 @@ use id_runs::put;
 use ids::Lookup;
 
 // How many places are used in the end, and for each pair, by its number, whether it is a switch.
-#[derive(Drop)]
+#[derive(Clone, Copy)]
 pub struct Matched {
     pub used: usize,
     pub switched: [bool; 64],
