@@ -1,5 +1,7 @@
 // The booking of a frame of module 4 whose pairing is there: its ids seen, its events in the log, or refused with the state as it came.
 // Ported from norfair-rs, metrics/accumulator.rs (NOTICE).
+#![tactic(auto)]
+
 ghost use Rattle.std.specs.Prelude.{◌≡◌, ◌*◌, ◌≤◌, length};
 ghost use Rattle.greedy.specs.Greedy.{Fitting};
 ghost use Rattle.metrics_booking.specs.Booking.{Within, book_of};
@@ -8,7 +10,7 @@ use greedy::Pairing;
 use metrics::MOTAccumulator;
 
 // The number of an update, and the state: beside a refusal the one that came.
-#[derive(Drop)]
+#[derive(Clone, Copy)]
 pub struct Updated {
     pub number: u32,
     pub state: MOTAccumulator,
