@@ -1,5 +1,7 @@
 // The accumulator of events of the internal module, and its metrics.
 // Ported from norfair-rs, internal/motmetrics/accumulator.rs, which follows py-motmetrics (NOTICE).
+#![tactic(auto)]
+
 ghost use Rattle.std.specs.Prelude.{◌≡◌, ◌≤◌, pos};
 ghost use Rattle.scores.specs.Scores.{Few};
 ghost use Rattle.motmetrics.specs.State.{new_state, sound_state};
@@ -9,14 +11,14 @@ use events::{Log, Tally};
 use partners::Truths;
 
 // The events so far, and the last match of each object id. (What the Rust's get_events lends is the log's first used events.)
-#[derive(Drop)]
+#[derive(Clone, Copy)]
 pub struct MOTAccumulator {
     pub log: Log,
     pub last_match: Truths,
 }
 
 // The Rust's 13 fields; those that it leaves 0 stay 0.
-#[derive(Drop)]
+#[derive(Clone, Copy)]
 pub struct MOTMetrics {
     pub num_matches: i32,
     pub num_misses: i32,
@@ -34,7 +36,7 @@ pub struct MOTMetrics {
 }
 
 // The number, and the metrics; beside a refusal they are all 0.
-#[derive(Drop)]
+#[derive(Clone, Copy)]
 pub struct Computed {
     pub number: u32,
     pub metrics: MOTMetrics,
