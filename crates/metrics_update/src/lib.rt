@@ -1,5 +1,7 @@
 // The update of the public module's MOTAccumulator: a frame paired by falling IoU and booked whole, or refused with the state as it came.
 // Ported from norfair-rs, metrics/accumulator.rs (NOTICE).
+#![tactic(auto)]
+
 ghost use Rattle.std.specs.Prelude.{◌≡◌, ◌*◌, ◌≤◌, length};
 ghost use Rattle.metrics_update.specs.Update.{Within, stored_of, paired_after, frame_after, update_of};
 
