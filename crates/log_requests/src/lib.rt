@@ -1,4 +1,6 @@
 // A log as words.
+#![tactic(auto)]
+
 ghost use Rattle.std.specs.Prelude.{◌≤◌};
 
 use events::{Event, Log, What};
@@ -7,14 +9,14 @@ use lines::output::Writer;
 use lines::session::{say_count, say_float, say_whole};
 use lines::{input, output};
 
-#[derive(Drop)]
+#[derive(Clone, Copy)]
 pub struct ReadEvent {
     pub event: Event,
     pub reader: Reader,
 }
 
 // A log, and how many of its places were given.
-#[derive(Drop)]
+#[derive(Clone, Copy)]
 pub struct ReadLog {
     pub log: Log,
     pub given: usize,
