@@ -1,4 +1,6 @@
 // A state of the extended accumulator as words.
+#![tactic(auto)]
+
 ghost use Rattle.std.specs.Prelude.{◌≤◌};
 
 use lifecycle_requests::{flag, read_lifecycle, say_lifecycle};
@@ -9,20 +11,20 @@ use lines::{input, output};
 use rows::ExtendedMOTAccumulator;
 use slots::{Partner, Slot};
 
-#[derive(Drop)]
+#[derive(Clone, Copy)]
 pub struct ReadPartner {
     pub partner: Partner,
     pub reader: Reader,
 }
 
-#[derive(Drop)]
+#[derive(Clone, Copy)]
 pub struct ReadSlot {
     pub slot: Slot,
     pub reader: Reader,
 }
 
 // A state, and how many places of its table were given.
-#[derive(Drop)]
+#[derive(Clone, Copy)]
 pub struct ReadState {
     pub state: ExtendedMOTAccumulator,
     pub given: usize,
