@@ -1,6 +1,8 @@
 // A frame's ids in the lent tables: whether they find room, which is settled before anything is written, so that nothing is ever put
 // back; and the ids, seen in order.
 // Ported from norfair-rs, internal/motmetrics/accumulator.rs, which follows py-motmetrics, and metrics/accumulator.rs (NOTICE).
+#![tactic(auto)]
+
 ghost use Rattle.std.specs.Prelude.{◌≡◌, not, false, ℕ, ◌*◌, ◌<◌, ◌≤◌, length, get_or};
 ghost use Rattle.seen.specs.Seen.{hypotheses_of, seen_hypotheses};
 ghost use Rattle.partners.specs.Partners.{pairs_of, booked_of, seen_truths};
