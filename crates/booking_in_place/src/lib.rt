@@ -1,5 +1,7 @@
 // The events of a frame whose pairing is handed in, written at the end of a log that is lent as columns: no log is copied.
 // Ported from norfair-rs, internal/motmetrics/accumulator.rs and metrics/accumulator.rs (NOTICE).
+#![tactic(auto)]
+
 ghost use Rattle.std.specs.Prelude.{◌≡◌, ◌+◌, ◌*◌, ◌-◌, ◌≤◌, length};
 ghost use Rattle.greedy.specs.Greedy.{Fitting};
 ghost use Rattle.booking.specs.Booking.{events_of};
