@@ -1,5 +1,5 @@
 -- The extended accumulator's totals as a tally of events, and its scores by the rules that modules 3 and 4 have for a log.
-use Rattle.std.specs.Prelude.{Bool, true, false, cond, ◌&&◌, ℕ, ◌+◌, ◌-◌, leb, nat_abs}
+use Rattle.std.specs.Prelude.{Bool, true, false, cond, ◌&&◌, ◌+◌, ◌-◌, leb, nat_abs}
 use Rattle.floats.specs.Float.{zero64}
 use Rattle.events.specs.declared.Tally.{Tally}
 use Rattle.scores.specs.Scores.{pairs_of, mean_of, precision_of, recall_of, mota_of, f1_of}

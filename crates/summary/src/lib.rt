@@ -1,4 +1,6 @@
 // What a table of scores says of an accumulator: how well all truth is covered so far, and the scores of its totals.
+#![tactic(auto)]
+
 ghost use Rattle.std.specs.Prelude.{◌≡◌, true, ◌+◌, ◌-◌, ◌<◌, ◌≤◌, nat_abs};
 ghost use Rattle.scores.specs.Scores.{Few, count64};
 ghost use Rattle.summary.specs.Coverage.{Below, added_of, covered_of, used_of, share_of, marks_of, running_of};
@@ -11,7 +13,7 @@ use slots::Slot;
 use wholes::size;
 
 // What a frame added to the extended accumulator's totals.
-#[derive(Drop)]
+#[derive(Clone, Copy)]
 pub struct Row {
     pub matches: u64,
     pub misses: u64,
@@ -20,21 +22,21 @@ pub struct Row {
 }
 
 // Tracked and detected frames of some truth ids together.
-#[derive(Drop)]
+#[derive(Clone, Copy)]
 pub struct Covered {
     pub tracked: u64,
     pub detected: u64,
 }
 
 // Their coverage: as a float, and in fortieths, rounded down.
-#[derive(Drop)]
+#[derive(Clone, Copy)]
 pub struct Running {
     pub share: f64,
     pub marks: u64,
 }
 
 // The scores of a tally; zeros where it has more events than a log.
-#[derive(Drop)]
+#[derive(Clone, Copy)]
 pub struct Scores {
     pub known: bool,
     pub mota: f64,
