@@ -1,5 +1,7 @@
 // A frame whose pairing is handed in, booked in a lent table, or refused with the table as it came: no state is copied.
 // Ported from norfair-rs, internal/motmetrics/accumulator.rs, which follows py-motmetrics (NOTICE).
+#![tactic(auto)]
+
 ghost use Rattle.std.specs.Prelude.{◌≡◌, ℕ, ◌+◌, ◌<◌, ◌≤◌, length, get_or};
 ghost use Rattle.rows.specs.Rows.{Lies, row_at};
 ghost use Rattle.frame.specs.Frame.{Few};
@@ -8,7 +10,7 @@ ghost use Rattle.inplace.specs.InPlace.{Tried, undone, number_of, Framed};
 use totals::{Shares, Totals};
 
 // What came of a trial, beside the table: full where a new id found no place, over where a count would have passed.
-#[derive(Drop)]
+#[derive(Clone, Copy)]
 pub struct Tally {
     pub totals: Totals,
     pub full: bool,
@@ -17,7 +19,7 @@ pub struct Tally {
 }
 
 // The number of a frame, and the totals: beside a refusal those that came.
-#[derive(Drop)]
+#[derive(Clone, Copy)]
 pub struct Closed {
     pub number: u32,
     pub totals: Totals,
