@@ -1,5 +1,7 @@
 // What an extended update gives back: a frame whose pairing is there, booked, or a refusal with the state as it came.
 // Ported from norfair-rs, internal/motmetrics/accumulator.rs, which follows py-motmetrics (NOTICE).
+#![tactic(auto)]
+
 ghost use Rattle.std.specs.Prelude.{◌≡◌, ◌≤◌, length};
 ghost use Rattle.extended_booking.specs.Booking.{refused_at, Lie, booked_with};
 
