@@ -1,5 +1,5 @@
 -- Document 01, "Lifecycles and events" and "Numbers given back": the update of module 3's MOTAccumulator, from any state and any frame.
-use Rattle.std.specs.Prelude.{Bool, cond, List, ℕ, ◌+◌, eqb, ltb, ℤ, length, take, Float}
+use Rattle.std.specs.Prelude.{cond, List, ℕ, ◌+◌, eqb, ltb, ℤ, length, take, Float}
 use Rattle.sizes.specs.Sizes.{shape_no}
 use Rattle.events.specs.declared.Event.{Event}
 use Rattle.partners.specs.declared.Booked.{Booked}

@@ -1,12 +1,14 @@
 // The update of module 3's MOTAccumulator: a frame paired by rising distance and booked whole, or refused with the state as it came.
 // Ported from norfair-rs, internal/motmetrics/accumulator.rs, which follows py-motmetrics (NOTICE).
+#![tactic(auto)]
+
 ghost use Rattle.std.specs.Prelude.{◌≡◌, ◌≤◌};
 ghost use Rattle.motmetrics_update.specs.Update.{frame_after, update_of};
 
 use motmetrics::MOTAccumulator;
 
 // The number of an update, and the state: beside a refusal the one that came.
-#[derive(Drop)]
+#[derive(Clone, Copy)]
 pub struct Updated {
     pub number: u32,
     pub state: MOTAccumulator,
