@@ -1,5 +1,5 @@
 -- Document 01, "Lifecycles and events" and refusals 1 and 7: the classes of an accumulator's lifecycles, and their fragmentations.
-use Rattle.std.specs.Prelude.{Bool, cond, List, ℕ, zero, suc, ◌+◌, ◌<◌, ◌≤◌, ◌*◌, ℤ, pos, nat_abs, get_or}
+use Rattle.std.specs.Prelude.{cond, List, ℕ, zero, suc, ◌+◌, ℤ, pos, nat_abs, get_or}
 use Rattle.counts.specs.Counts.{fits}
 use Rattle.lifecycle.specs.declared.TrackLifecycle.{TrackLifecycle}
 use Rattle.lifecycle_parts.specs.declared.Class.{Class}

@@ -1,5 +1,7 @@
 // How many objects were mostly tracked, partly or mostly lost, and how often their tracks broke in all.
 // Ported from norfair-rs, internal/motmetrics/accumulator.rs, which follows py-motmetrics (NOTICE).
+#![tactic(auto)]
+
 ghost use Rattle.std.specs.Prelude.{◌≡◌, true, ◌+◌, ◌*◌, ◌≤◌, pos, take};
 ghost use Rattle.std.specs.Int.Signed.{non_neg};
 ghost use Rattle.slots.specs.Slots.{counts_sound};
@@ -12,7 +14,7 @@ use rows::ExtendedMOTAccumulator;
 use slots::Slot;
 
 // The Rust's four numbers behind the port's own.
-#[derive(Drop)]
+#[derive(Clone, Copy)]
 pub struct ExtendedMetrics {
     pub number: u32,
     pub mostly_tracked: i32,
@@ -21,7 +23,7 @@ pub struct ExtendedMetrics {
     pub total_fragmentations: i32,
 }
 
-#[derive(Drop)]
+#[derive(Clone, Copy)]
 pub struct Tally {
     pub tracked: usize,
     pub partially: usize,
