@@ -1,5 +1,7 @@
 // The metrics of the public module's accumulator.
 // Ported from norfair-rs, metrics/evaluation.rs (NOTICE).
+#![tactic(auto)]
+
 ghost use Rattle.std.specs.Prelude.{◌≡◌};
 ghost use Rattle.scores.specs.Scores.{Few};
 ghost use Rattle.evaluation.specs.Evaluation.{metrics_of, no_metrics, evaluated_of};
@@ -8,7 +10,7 @@ use events::Tally;
 use metrics::MOTAccumulator;
 
 // The Rust's 13 fields; those that it leaves 0 stay 0.
-#[derive(Drop)]
+#[derive(Clone, Copy)]
 pub struct MOTMetrics {
     pub mota: f64,
     pub motp: f64,
@@ -26,7 +28,7 @@ pub struct MOTMetrics {
 }
 
 // The number, and the metrics; beside a refusal they are all 0.
-#[derive(Drop)]
+#[derive(Clone, Copy)]
 pub struct Evaluated {
     pub number: u32,
     pub metrics: MOTMetrics,
