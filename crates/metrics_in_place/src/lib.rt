@@ -1,6 +1,8 @@
 // The inner update of the public module's accumulator in place: the state is four lent runs of numbers, and none is copied. Playback
 // and the border to C call it.
 // Ported from norfair-rs, metrics/accumulator.rs (NOTICE).
+#![tactic(auto)]
+
 ghost use Rattle.std.specs.Prelude.{◌≡◌, ◌*◌, ◌≤◌, length};
 ghost use Rattle.shape.specs.Shape.{shape_no};
 ghost use Rattle.greedy.specs.Greedy.{Fitting};
@@ -10,7 +12,7 @@ ghost use Rattle.metrics_in_place.specs.InPlace.{runs_of, Within, Booked, Booked
 use greedy::Pairing;
 
 // How many places are used of the log, of the table of the truth ids, and of the hypothesis ids.
-#[derive(Drop)]
+#[derive(Clone, Copy)]
 pub struct Used {
     pub events: usize,
     pub truths: usize,
@@ -18,7 +20,7 @@ pub struct Used {
 }
 
 // The number of an update, and the used counts: beside a refusal those that came.
-#[derive(Drop)]
+#[derive(Clone, Copy)]
 pub struct Closed {
     pub number: u32,
     pub used: Used,
