@@ -1,4 +1,6 @@
 // Tables of ids as words.
+#![tactic(auto)]
+
 ghost use Rattle.std.specs.Prelude.{◌≤◌};
 
 use lines::input;
@@ -11,14 +13,14 @@ use seen::Hypotheses;
 use state_requests::{read_partner, say_partner};
 
 // A table, and how many of its places were given.
-#[derive(Drop)]
+#[derive(Clone, Copy)]
 pub struct ReadTruths {
     pub truths: Truths,
     pub given: usize,
     pub reader: Reader,
 }
 
-#[derive(Drop)]
+#[derive(Clone, Copy)]
 pub struct ReadHypotheses {
     pub hypotheses: Hypotheses,
     pub given: usize,
