@@ -1,4 +1,6 @@
 // What the getters say of a state, and what the metrics are.
+#![tactic(auto)]
+
 use evaluation::{Evaluated, MOTMetrics};
 use float_bits::computed;
 use lines::output;
