@@ -1,6 +1,8 @@
 // The inner update of module 3's MOTAccumulator in place: its log and its table are lent as columns of numbers, and no state is copied.
 // Playback and the border to C call it.
 // Ported from norfair-rs, internal/motmetrics/accumulator.rs, which follows py-motmetrics (NOTICE).
+#![tactic(auto)]
+
 ghost use Rattle.std.specs.Prelude.{◌≡◌, ◌*◌, ◌≤◌, length};
 ghost use Rattle.greedy.specs.Greedy.{Fitting};
 ghost use Rattle.motmetrics_in_place.specs.Updated.{runs_of, Within, Framed, Updated};
@@ -8,14 +10,14 @@ ghost use Rattle.motmetrics_in_place.specs.Updated.{runs_of, Within, Framed, Upd
 use greedy::Pairing;
 
 // How many places of the log and of the table are used.
-#[derive(Drop)]
+#[derive(Clone, Copy)]
 pub struct Used {
     pub events: usize,
     pub truths: usize,
 }
 
 // The number of a frame, and the used counts: beside a refusal those that came.
-#[derive(Drop)]
+#[derive(Clone, Copy)]
 pub struct Closed {
     pub number: u32,
     pub used: Used,
