@@ -1,13 +1,12 @@
 -- Where the lists of a frame's pairing lie: in the two runs of ids. Assumes nothing.
 use mathlib.Core.Path.{◌≡◌, refl, sym, ap, ◌∙◌, subst}
-use mathlib.Core.Bool.{cond}
 use mathlib.Core.Logic.{⊎_elim}
 use mathlib.Core.List.{List}
 use Prim.Native.Nat.{ℕ, zero, suc, ◌*◌, ◌/◌, ◌<◌, ◌≤◌}
 use native.Mathlib.Nat.{not-suc-le-zero}
 use native.Mathlib.Omega.{arith}
 use borrow.Author.Tests.{eq-eqb, ne_eqb}
-use lib.ListN.{length, get_or}
+use lib.ListN.{length}
 use lib.Ieee.{Float}
 use Rattle.square.proofs.Index.{eq-or-not}
 use Rattle.matrix.specs.Matrix.{matrix_of}
@@ -17,7 +16,7 @@ use Rattle.solver.specs.Solution.{solution_of}
 use Rattle.solver.proofs.Lists.{Placed, solution_placed}
 use Rattle.pairing.specs.declared.Pairing.{Pairing}
 use Rattle.shape.specs.Shape.{shape_no}
-use Rattle.shape.proofs.Sides.{Side, sides}
+use Rattle.shape.proofs.Sides.{sides}
 use Rattle.pairing.specs.Pairing.{pairing_no, no_pairs, paired_of, frame_pairs, pairing_at, pairing_of}
 use Rattle.optimize.proofs.Number.{taken}
 use Rattle.pairing.proofs.Ways.{accept}

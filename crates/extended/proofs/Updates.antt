@@ -1,6 +1,6 @@
 -- What follows of every update: a refused one keeps the state, and calls in a row are a fold. Assumes nothing.
 use mathlib.Core.Path.{◌≡◌, refl, ap, ◌∙◌}
-use mathlib.Core.List.{List, [], ◌∷◌}
+use mathlib.Core.List.{List}
 use Prim.Native.Nat.{ℕ}
 use borrow.Author.Tests.{ne_eqb}
 use lib.IntN.{ℤ}
@@ -10,9 +10,8 @@ use Rattle.rows.specs.declared.ExtendedMOTAccumulator.{ExtendedMOTAccumulator}
 use Rattle.rows.specs.declared.Row.{Row}
 use Rattle.frame.specs.declared.Booked.{Booked}
 use Rattle.frame.specs.Frame.{frame_of, closed, closed_at}
-use Rattle.pairing.specs.declared.Pairing.{Pairing}
 use Rattle.extended.specs.Update.{rows_in, pairing_in, update_of}
-use Rattle.extended.specs.Play.{Frame, update_by, played_of, Played, none, next}
+use Rattle.extended.specs.Play.{Frame, played_of, Played, none, next}
 use Rattle.extended.proofs.Ways.{update_ways}
 
 -- ---- beside a refusal the state is the one that came

@@ -1,5 +1,7 @@
 // The extended accumulator's update: a frame paired, summed and booked whole, or refused with the state as it came.
 // Ported from norfair-rs, internal/motmetrics/accumulator.rs, which follows py-motmetrics (NOTICE).
+#![tactic(auto)]
+
 ghost use Rattle.std.specs.Prelude.{◌≡◌, ◌≤◌};
 ghost use Rattle.extended.specs.Update.{frame_after, update_of};
 
