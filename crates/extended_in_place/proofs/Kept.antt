@@ -1,14 +1,13 @@
 -- An update in place keeps what the next one asks: no more slots in use than the table has. Assumes nothing.
-use mathlib.Core.Path.{◌≡◌, sym, ap, subst}
+use mathlib.Core.Path.{sym, subst}
 use mathlib.Core.List.{List}
-use Prim.Native.Nat.{ℕ, ◌≤◌}
+use Prim.Native.Nat.{◌≤◌}
 use lib.IntN.{ℤ}
 use lib.ListN.{length}
 use lib.Ieee.{Float}
 use Rattle.columns.proofs.Laws.{slots_long}
 use Rattle.frame.specs.declared.Booked.{Booked}
 use Rattle.frame.proofs.Kept.{frame_in}
-use Rattle.pairing.specs.declared.Pairing.{Pairing}
 use Rattle.extended.specs.Update.{rows_in, pairing_in}
 use Rattle.extended.proofs.Ways.{after_ways}
 use Rattle.totals.specs.declared.Totals.{Totals}

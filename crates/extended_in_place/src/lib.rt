@@ -1,6 +1,8 @@
 // The extended accumulator's inner update in place: the table is a lent run of numbers, and no state is copied. Playback and the
 // border to C call it.
 // Ported from norfair-rs, internal/motmetrics/accumulator.rs, which follows py-motmetrics (NOTICE).
+#![tactic(auto)]
+
 ghost use Rattle.std.specs.Prelude.{◌≡◌, ◌≤◌, length};
 ghost use Rattle.extended.specs.Update.{Lie, rows_in};
 ghost use Rattle.inplace.specs.InPlace.{Framed};
