@@ -1,4 +1,6 @@
 // The scores of both accumulators, side by side.
+#![tactic(auto)]
+
 use evaluation::MOTMetrics;
 use extended_metrics::ExtendedMetrics;
 use lines::output;
