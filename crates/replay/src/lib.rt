@@ -1,4 +1,6 @@
 // A frame handed to both accumulators: booked by both, or by neither.
+#![tactic(auto)]
+
 ghost use Rattle.std.specs.Prelude.{◌≡◌, ◌-◌, nat_abs};
 ghost use Rattle.replay.specs.Replay.{row_of, no_row, refused_at, booked_by, step_of};
 
@@ -8,14 +10,14 @@ use summary::Row;
 use wholes::size;
 
 // The accumulators that a scene is scored by: the extended one, and module 4's.
-#[derive(Drop)]
+#[derive(Clone, Copy)]
 pub struct Both {
     pub extended: ExtendedMOTAccumulator,
     pub metrics: MOTAccumulator,
 }
 
 // The numbers that both gave, the frame's row, and the states: beside a refusal a row of zeros and the states that came.
-#[derive(Drop)]
+#[derive(Clone, Copy)]
 pub struct Step {
     pub extended_number: u32,
     pub metrics_number: u32,
