@@ -1,5 +1,7 @@
 // The extended accumulator's public update over flat lent numbers, as it goes over the border to C: no enum and no struct crosses.
 // Ported from norfair-rs, internal/motmetrics/accumulator.rs, which follows py-motmetrics (NOTICE).
+#![tactic(auto)]
+
 ghost use Rattle.std.specs.Prelude.{◌≡◌, true, [], ◌∷◌, ◌≤◌, pos, length, take, get_or};
 ghost use Rattle.std.specs.Int.Signed.{non_neg};
 ghost use Rattle.slots.specs.Slots.{counts_sound, sound_of};
@@ -126,6 +128,7 @@ fn write_totals(t: Totals, counters: &mut [i32], distance: &mut [f64])
 }
 
 // Whether the lent runs are as long as a state's.
+#[tactic(auto, unfolding(crate::specs::Flat::whole_of))]
 fn whole(run: usize, counters: usize, distance: usize) -> bool
     ensures { result ≡ whole_of run counters distance }
 {
