@@ -1,4 +1,6 @@
 // The request of modules 4 and 5 (oracle/PROTOCOL.md): frames of module 4's accumulator, answered one after the other.
+#![tactic(auto)]
+
 ghost use Rattle.lines.specs.Cursors.{Front};
 
 use getter_requests::say_getters;
@@ -10,7 +12,7 @@ use metrics::MOTAccumulator;
 use metrics_booking::Updated;
 
 // A state, and how many places of its log and of its tables were given.
-#[derive(Drop)]
+#[derive(Clone, Copy)]
 struct ReadState {
     state: MOTAccumulator,
     events: usize,
@@ -20,7 +22,7 @@ struct ReadState {
 }
 
 // How many numbers two runs have, and where the reading stands.
-#[derive(Drop)]
+#[derive(Clone, Copy)]
 struct ReadRuns {
     first: usize,
     second: usize,
@@ -28,7 +30,7 @@ struct ReadRuns {
 }
 
 // Where a sequence stands.
-#[derive(Drop)]
+#[derive(Clone, Copy)]
 struct Played {
     state: MOTAccumulator,
     reader: Reader,
