@@ -20,7 +20,7 @@ use Rattle.greedy_pairs.specs.Pairs.{by_share}
 use Rattle.metrics.specs.declared.MOTAccumulator.{MOTAccumulator}
 use Rattle.metrics.specs.State.{sound_state}
 use Rattle.metrics_booking.specs.declared.Updated.{Updated as After}
-use Rattle.metrics_update.specs.Update.{refused_at, stored_of, book_of, frame_after, update_of}
+use Rattle.metrics_update.specs.Update.{stored_of, book_of, frame_after, update_of}
 use Rattle.metrics_update.proofs.Steps as steps
 use Rattle.metrics_in_place.specs.declared.Used.{Used}
 use Rattle.metrics_in_place.specs.declared.Closed.{Closed}

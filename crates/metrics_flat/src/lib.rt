@@ -1,5 +1,7 @@
 // The public update of module 4's MOTAccumulator over flat lent numbers, as it goes over the border to C: no enum and no struct crosses.
 // Ported from norfair-rs, metrics/accumulator.rs (NOTICE).
+#![tactic(auto)]
+
 ghost use Rattle.std.specs.Prelude.{◌≡◌, true, [], length};
 ghost use Rattle.sizes.specs.Sizes.{Long};
 ghost use Rattle.metrics.specs.State.{sound_state};
