@@ -1,4 +1,6 @@
 // The requests of module 1: boxes, and the two matrices (oracle/PROTOCOL.md).
+#![tactic(auto)]
+
 ghost use Rattle.std.specs.Prelude.{◌≤◌, length};
 ghost use Rattle.lines.specs.Cursors.{Front};
 
@@ -8,14 +10,14 @@ use iou::Distance;
 use lines::session::{Reply, Session, ended, numbered, refused};
 use lines::{input, output};
 
-#[derive(Drop)]
+#[derive(Clone, Copy)]
 struct ReadBox {
     value: Box,
     reader: input::Reader,
 }
 
 // Two boxes, and where the line ended.
-#[derive(Drop)]
+#[derive(Clone, Copy)]
 struct BoxPair {
     a: Box,
     b: Box,
@@ -23,7 +25,7 @@ struct BoxPair {
 }
 
 // The lengths of three runs, and where the line ended.
-#[derive(Drop)]
+#[derive(Clone, Copy)]
 struct Sizes {
     truth: usize,
     predicted: usize,
@@ -32,7 +34,7 @@ struct Sizes {
 }
 
 // Which matrix is asked for.
-#[derive(Drop)]
+#[derive(Clone, Copy)]
 enum Which {
     Distances,
     Shares,
