@@ -1,4 +1,6 @@
 // The requests of module 3's MOTAccumulator (oracle/PROTOCOL.md).
+#![tactic(auto)]
+
 ghost use Rattle.std.specs.Prelude.{◌≤◌};
 
 use float_bits::computed;
@@ -10,7 +12,7 @@ use motmetrics::{Computed, MOTAccumulator, MOTMetrics};
 use motmetrics_update::Updated;
 
 // A state, and how many places of its log and of its table were given.
-#[derive(Drop)]
+#[derive(Clone, Copy)]
 struct ReadState {
     state: MOTAccumulator,
     events: usize,
@@ -19,7 +21,7 @@ struct ReadState {
 }
 
 // Where a sequence stands.
-#[derive(Drop)]
+#[derive(Clone, Copy)]
 struct Played {
     state: MOTAccumulator,
     reader: Reader,
