@@ -1,4 +1,6 @@
 // Updates for bench/run, made one after the other on this side of the border, where the state stays.
+#![tactic(auto)]
+
 mod metric_updates;
 mod mot;
 
