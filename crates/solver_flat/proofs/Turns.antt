@@ -6,13 +6,12 @@ use Prim.Native.Nat.{ℕ, ◌+◌, ◌≤◌, ◌<◌}
 use native.Mathlib.Omega.{arith}
 use lib.ListN.{length, length-append, length-map, length-replicate, length-set, get_or, replicate, set, take, drop}
 use lib.Ieee.{Float}
-use lib.Seq.{length-take-le, take-set-lt, drop-set-lt, set-append_left, paste}
-use Rattle.square.specs.Index.{on, Picked}
+use lib.Seq.{length-take-le, take-set-lt, drop-set-lt, set-append_left}
+use Rattle.square.specs.Index.{on}
 use Rattle.square.proofs.Picking.{picked_none, picked_few, picked_yes, picked_no}
 use Rattle.optimize.specs.declared.Assignment.{Assignment}
 use Rattle.optimize.specs.declared.AssignmentResult.{AssignmentResult}
-use Rattle.optimize.specs.Answer.{Solved, keeps, pair_of, no_pair, result_of, rows_alone}
-use Rattle.optimize.specs.Inner.{Listed}
+use Rattle.optimize.specs.Answer.{Solved, keeps, pair_of, no_pair, rows_alone}
 use Rattle.optimize.proofs.Listing as listing
 use Rattle.solver_flat.specs.Flat.{rows_of, cols_of, flat_after}
 use Rattle.solver_flat.specs.Inner.{Clear, Pasted, PickedAt, PairsAt, Found}
