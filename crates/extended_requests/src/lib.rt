@@ -1,4 +1,6 @@
 // The request of the extended accumulator (oracle/PROTOCOL.md): frames, answered one after the other.
+#![tactic(auto)]
+
 ghost use Rattle.std.specs.Prelude.{◌≤◌};
 ghost use Rattle.lines.specs.Cursors.{Front};
 
@@ -11,7 +13,7 @@ use lines::{input, output};
 use rows::ExtendedMOTAccumulator;
 
 // How many ids and floats one side of a frame has, and where the reading stands.
-#[derive(Drop)]
+#[derive(Clone, Copy)]
 struct ReadSide {
     ids: usize,
     floats: usize,
@@ -19,7 +21,7 @@ struct ReadSide {
 }
 
 // Where a sequence stands.
-#[derive(Drop)]
+#[derive(Clone, Copy)]
 struct Played {
     state: ExtendedMOTAccumulator,
     reader: Reader,
