@@ -1,5 +1,7 @@
 // Calls for bench/run that are over in nanoseconds, made many times; the search by value; new states; and the scores and counts of a
 // state that updates by one frame have made.
+#![tactic(auto)]
+
 use events::Log;
 use iou::Distance;
 use lifecycle::TrackLifecycle;
