@@ -1,5 +1,7 @@
 // The public update of module 3's MOTAccumulator over flat lent numbers, as it goes over the border to C: no enum and no struct crosses.
 // Ported from norfair-rs, internal/motmetrics/accumulator.rs, which follows py-motmetrics (NOTICE).
+#![tactic(auto)]
+
 ghost use Rattle.std.specs.Prelude.{◌≡◌, true, [], length};
 ghost use Rattle.sizes.specs.Sizes.{Long};
 ghost use Rattle.motmetrics.specs.State.{sound_state};
