@@ -15,7 +15,7 @@ use Rattle.scenes.specs.Frames.{frames_in, truths_in, predictions_in, Shown}
 use Rattle.replay.specs.declared.Both.{Both}
 use Rattle.replay.specs.declared.Step.{Step}
 use Rattle.replay.specs.Replay.{new_both, step_of}
-use Rattle.score_scene.specs.Playing.{scene_step, refuses, Run, run_after, played_of, Stands}
+use Rattle.score_scene.specs.Playing.{scene_step, Run, run_after, played_of, Stands}
 
 stood : {b c : Both} {o p : Bool} {r q : Run} → b ≡ c → o ≡ p → r ≡ q → Stands c p r → Stands b o q
 stood e f g s = record { states = e ∙ (s.states ∙ ap (λ (x : Run). x.both) g); ends = f ∙ (s.ends ∙ ap (λ (x : Run). x.over) g) }

@@ -1,5 +1,5 @@
 -- A scene's frames handed to both accumulators in a row, up to the first that is refused.
-use Rattle.std.specs.Prelude.{◌≡◌, Bool, true, false, cond, ◌&&◌, not, ℕ, zero, suc, ◌+◌, eqb, pos, length, get_or}
+use Rattle.std.specs.Prelude.{◌≡◌, Bool, true, false, cond, ℕ, zero, suc, ◌+◌, eqb, pos, length, get_or}
 use Rattle.scenes.specs.declared.Scene.{Scene}
 use Rattle.scenes.specs.declared.Sizes.{Sizes}
 use Rattle.scene_rows.specs.Digits.{ids_of, boxes_of}

@@ -1,4 +1,6 @@
 // A scene played frame by frame through both accumulators, and what is said of it.
+#![tactic(auto)]
+
 ghost use Rattle.std.specs.Prelude.{◌≡◌, ◌<◌};
 ghost use Rattle.replay.specs.Replay.{new_both};
 ghost use Rattle.score_scene.specs.Playing.{scene_step, run_after, played_of, Stands};
@@ -16,7 +18,7 @@ use score_totals::say_totals;
 use summary::running_coverage;
 
 // Where a run stands.
-#[derive(Drop)]
+#[derive(Clone, Copy)]
 struct Played {
     both: Both,
     writer: Writer,
