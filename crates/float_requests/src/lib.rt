@@ -1,10 +1,12 @@
 // The requests on single floats (oracle/PROTOCOL.md).
+#![tactic(auto)]
+
 use float_bits::computed;
 use lines::session::{Reply, Session, ended, refused};
 use lines::{input, output};
 
 // Two floats, and where the line ended.
-#[derive(Drop)]
+#[derive(Clone, Copy)]
 struct FloatPair {
     x: f64,
     y: f64,
