@@ -1,5 +1,7 @@
 // The two updates of a lifecycle over a record that is lent and changed in place: thin forms of the methods by value, for a caller that
 // keeps its records where they are. Ported from norfair-rs, internal/motmetrics/accumulator.rs, which follows py-motmetrics (NOTICE).
+#![tactic(auto)]
+
 ghost use Rattle.std.specs.Prelude.{◌≡◌};
 ghost use Rattle.lifecycle.specs.Lifecycle.{update_matched_of, update_missed_of};
 ghost use Rattle.lifecycle_in_place.specs.InPlace.{answer};
@@ -7,8 +9,7 @@ ghost use Rattle.lifecycle_in_place.specs.InPlace.{answer};
 use lifecycle::TrackLifecycle;
 
 // The object is matched in a frame. The answer is the number; beside a refusal the record stays.
-#[unsafe(no_mangle)]
-pub extern "C" fn mot_update_matched(it: &mut TrackLifecycle, frame: i32) -> u32
+pub fn mot_update_matched(it: &mut TrackLifecycle, frame: i32) -> u32
     ensures { answer result it.new ≡ update_matched_of it.old frame }
 {
     let old = *it;
@@ -18,8 +19,7 @@ pub extern "C" fn mot_update_matched(it: &mut TrackLifecycle, frame: i32) -> u32
 }
 
 // The object is missed in a frame. The answer is the number; beside a refusal the record stays.
-#[unsafe(no_mangle)]
-pub extern "C" fn mot_update_missed(it: &mut TrackLifecycle, frame: i32) -> u32
+pub fn mot_update_missed(it: &mut TrackLifecycle, frame: i32) -> u32
     ensures { answer result it.new ≡ update_missed_of it.old frame }
 {
     let old = *it;
