@@ -1,4 +1,6 @@
 // The request of module 2: the solver (oracle/PROTOCOL.md).
+#![tactic(auto)]
+
 ghost use Rattle.std.specs.Prelude.{◌≤◌};
 ghost use Rattle.lines.specs.Cursors.{Front};
 
@@ -57,7 +59,7 @@ fn say_result(to: &mut [u8; 65536], w: Writer, r: AssignmentResult) -> Writer {
 }
 
 // The words of a request, and where the line ended.
-#[derive(Drop)]
+#[derive(Clone, Copy)]
 struct Problem {
     rows: u64,
     cols: u64,
