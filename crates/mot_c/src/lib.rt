@@ -1,4 +1,6 @@
 // Modules 1 and 2 for C and Rust: each slice is a pointer and a length. Every function promises what the call behind it does.
+#![tactic(auto)]
+
 ghost use Rattle.std.specs.Prelude.{◌≡◌, length};
 ghost use Rattle.solver_flat.specs.Flat.{Handed};
 ghost use Rattle.matrix.specs.Matrix.{distance_matrix_no, iou_matrix_no, matrix_after};
