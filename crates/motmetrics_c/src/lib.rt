@@ -1,4 +1,6 @@
 // Module 3's accumulator for C and Rust: its state is lent as flat numbers, and stays with the caller between updates.
+#![tactic(auto)]
+
 ghost use Rattle.motmetrics_in_place.specs.Updated.{runs_of};
 ghost use Rattle.motmetrics_flat.specs.Flat.{Answered};
 
