@@ -1,8 +1,11 @@
 // The words of a command line, each the name of a scene.
+#![tactic(auto)]
+
 use lines::output;
 use lines::output::Writer;
 use scenes::Scene;
 use score_scene::score;
+use std::env::{Env, FillError};
 
 fn say_title(to: &mut [u8; 65536], w: Writer, title: &[u8]) -> Writer {
     let q = output::text(to, w, title);
@@ -82,21 +85,32 @@ pub fn answer_word(to: &mut [u8; 65536], w: Writer, word: &[u8]) -> Writer {
 }
 
 // The command line's word of this number, from 1. One that is not there has no letters; one that is too long is no scene's.
-fn answer_argument(to: &mut [u8; 65536], w: Writer, i: usize) -> Writer {
+fn answer_argument(rt: &HostRuntime, to: &mut [u8; 65536], w: Writer, i: usize) -> Writer {
     let mut letters = [0u8; 32];
-    let n = os::arg(i, &mut letters);
-    if os::errno() == libc::ENAMETOOLONG {
-        return say_help(to, w);
+    match rt.arg(i, &mut letters) {
+        Ok(n) => answer_word(to, w, &letters[..n]),
+        Err(FillError::NotPresent) => answer_word(to, w, &[]),
+        Err(FillError::TooLong) => say_help(to, w),
     }
-    answer_word(to, w, &letters[..n])
 }
 
-fn answer_next(to: &mut [u8; 65536], w: Writer, i: usize) -> Writer {
+fn answer_next(rt: &HostRuntime, to: &mut [u8; 65536], w: Writer, i: usize) -> Writer {
     if i > 1 {
         let q = output::byte(to, w, b'\n');
-        return answer_argument(to, q, i);
+        return answer_argument(rt, to, q, i);
     }
-    answer_argument(to, w, i)
+    answer_argument(rt, to, w, i)
+}
+
+// How many arguments the program has, its own name among them.
+fn argument_count(rt: &HostRuntime) -> usize {
+    let mut letters = [0u8; 32];
+    for i in 0..usize::MAX {
+        if let Err(FillError::NotPresent) = rt.arg(i, &mut letters) {
+            return i;
+        }
+    }
+    usize::MAX
 }
 
 // How many words are answered: one where there is none. (The first argument is the program's name.)
@@ -108,14 +122,14 @@ fn words(arguments: usize) -> usize {
 }
 
 // Every word in its turn, with an empty line between two.
-pub fn answer_words() {
+pub fn answer_words(rt: &HostRuntime) {
     let mut to = io::large_buffer();
-    let mut w = output::start();
-    let n = words(os::arg_count());
+    let mut w = output::start(rt.stdout());
+    let n = words(argument_count(rt));
     let mut i: usize = 0;
     while i < n {
         i += 1;
-        w = answer_next(&mut to, w, i);
+        w = answer_next(rt, &mut to, w, i);
     }
     output::flush(&to, w);
 }
