@@ -1,4 +1,6 @@
 // Module 4's accumulator for C and Rust: its state is lent as flat numbers, and stays with the caller between updates.
+#![tactic(auto)]
+
 ghost use Rattle.metrics_in_place.specs.InPlace.{runs_of};
 ghost use Rattle.metrics_flat.specs.Flat.{Answered};
 
