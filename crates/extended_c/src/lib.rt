@@ -1,4 +1,6 @@
 // The extended accumulator for C and Rust: its state is lent as flat numbers, and stays with the caller between updates.
+#![tactic(auto)]
+
 ghost use Rattle.extended_flat.specs.Flat.{Answered};
 
 // The extended accumulator: nine columns of 256 numbers, seven counters, one distance.
