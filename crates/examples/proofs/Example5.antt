@@ -1,6 +1,6 @@
 -- Example 5 of document 01: rows (0, 4), (1, 9), max 3. The first pass pairs (0, 0); the path from row 1 flips it. Assumes nothing.
 use mathlib.Core.Path.{◌≡◌, refl, sym, ap, ◌∙◌, subst}
-use mathlib.Core.Bool.{true, false, true≢false}
+use mathlib.Core.Bool.{false, true≢false}
 use mathlib.Core.List.{List, [], ◌∷◌}
 use mathlib.Core.Logic.{inl}
 use lib.Dec.{lit<}

@@ -1,6 +1,5 @@
 -- DOCUMENT 01'S SIXTEEN MARKED EXAMPLES: what the definitions say is what the table says, row by row. Rows of the search go by its law
 -- (`answer_is`), every other is computed. Assumes nothing.
-use Prim.Native.Nat.{ℕ}
 use mathlib.Core.Path.{◌≡◌, refl, ap}
 use mathlib.Core.List.{List, [], ◌∷◌, map}
 use lib.Ieee.{of_int, neg, add, sub, mul, div, lt, le, eq, is_nan}

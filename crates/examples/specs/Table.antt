@@ -1,6 +1,6 @@
 -- Document 01, "Sixteen marked examples": each stands here, once, under its number. What 01 leaves open is open here too (`Open`).
 -- Definitions only.
-use Rattle.std.specs.Prelude.{ℕ, Bool, true, false, List, [], ◌∷◌, ℤ, pos, negsuc, replicate, Float}
+use Rattle.std.specs.Prelude.{ℕ, Bool, false, List, [], ◌∷◌, ℤ, pos, negsuc, replicate, Float}
 use Rattle.std.specs.Float.{binary64, fin, nan}
 use Rattle.std.specs.Float.Ieee.{sub, div}
 use Rattle.floats.specs.Float.{zero64, one64}
