@@ -18,7 +18,7 @@ use Rattle.sorting.specs.Sort.{sort_of}
 use Rattle.sorting.proofs.Permutes.{each_at, each_still}
 use Rattle.slots.specs.Slots.{switches}
 use Rattle.partners.specs.declared.Booked.{Booked}
-use Rattle.partners.specs.Partners.{pair_at, last_of, match_all, table_of}
+use Rattle.partners.specs.Partners.{last_of, match_all, table_of}
 use Rattle.greedy.specs.declared.Pairing.{Pairing}
 use Rattle.greedy.specs.Greedy.{taken_of, Fitting}
 use Rattle.greedy.proofs.Pairings.{pairs_are, pairs_long}
@@ -34,7 +34,7 @@ use Rattle.booking.proofs.Paired.{pair_event_at}
 use Rattle.metrics_laws.proofs.Meaning.{pairs, named_by_last}
 use Rattle.motmetrics.specs.declared.MOTAccumulator.{MOTAccumulator}
 use Rattle.motmetrics_update.specs.declared.Updated.{Updated}
-use Rattle.motmetrics_update.specs.Update.{refused_at, closed_at, matched_by, book_no, booked_with, book_of, frame_after}
+use Rattle.motmetrics_update.specs.Update.{refused_at, matched_by, booked_with, book_of, frame_after}
 use Rattle.motmetrics_update.proofs.Steps.{pairing_fits}
 use Rattle.sizes.specs.Sizes.{shape_no}
 use Rattle.sizes.proofs.Shape.{Shaped, well_shaped}
