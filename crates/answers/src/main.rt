@@ -1,4 +1,6 @@
 // The port's side of the comparison: a request a line in, an answer a line out (oracle/PROTOCOL.md).
+#![tactic(auto)]
+
 use lines::session::{Reply, Session};
 use lines::{input, output, session};
 
@@ -99,13 +101,14 @@ fn turn(
 }
 
 fn answer_all(
+    rt: &HostRuntime,
     from: &mut [u8; 65536],
     to: &mut [u8; 65536],
     a: &mut [f64],
     b: &mut [f64],
     c: &mut [f64],
 ) {
-    let mut s = session::start();
+    let mut s = session::start(rt);
     let mut turns: u64 = 0x100_0000_0000;
     while turns > 0 && session::goes_on(s) {
         s = turn(from, to, a, b, c, s);
@@ -114,11 +117,11 @@ fn answer_all(
     output::flush(to, s.writer);
 }
 
-fn main() {
+fn main(rt: HostRuntime) {
     let mut from = io::large_buffer();
     let mut to = io::large_buffer();
     let mut a = [0.0; 8192];
     let mut b = [0.0; 8192];
     let mut c = [0.0; 8192];
-    answer_all(&mut from, &mut to, &mut a, &mut b, &mut c);
+    answer_all(&rt, &mut from, &mut to, &mut a, &mut b, &mut c);
 }
