@@ -1,4 +1,6 @@
 // Scores the scenes that the command line names.
-fn main() {
-    score_words::answer_words();
+#![tactic(auto)]
+
+fn main(rt: HostRuntime) {
+    score_words::answer_words(&rt);
 }
