@@ -27,6 +27,7 @@ pub extern "C" fn mot_iou_matrix(boxes_a: &[f64], boxes_b: &[f64], out: &mut [f6
 }
 
 // The counts and lists in 261 places of the lent run.
+#[tactic(auto, using(optimize::proofs::Number::fits, solver_flat::proofs::Border::handed_refused, solver_flat::proofs::Border::handed_short, solver_flat::proofs::Border::handed_alone, solver_flat::proofs::Border::handed_found))]
 #[unsafe(no_mangle)]
 pub extern "C" fn mot_linear_sum_assignment(
     cost: &[f64],
