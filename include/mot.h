@@ -1,5 +1,6 @@
 /* The port for C. The matrices and the solver are in the archive of crates/mot_c, the accumulators in those of
- * crates/extended_c, crates/motmetrics_c and crates/metrics_c, a lifecycle by itself in that of crates/lifecycle_in_place.
+ * crates/extended_c, crates/motmetrics_c and crates/metrics_c, a lifecycle by itself in liblifecycle_in_place.a, which is that of
+ * crates/lifecycle_in_place_c.
  * Each stands alone: link those that you call.
  *
  * A slice is a pointer and the number of its elements. A length of 0 goes with any pointer that is not null and is aligned.

@@ -1,5 +1,5 @@
-//! What crates/mot_c, crates/extended_c, crates/motmetrics_c, crates/metrics_c, crates/lifecycle_in_place, crates/bench_c and
-//! crates/bench_calls export. A slice goes over as a pointer and a length.
+//! What crates/mot_c, crates/extended_c, crates/motmetrics_c, crates/metrics_c, crates/lifecycle_in_place_c, crates/bench_c
+//! and crates/bench_calls export. A slice goes over as a pointer and a length.
 
 extern "C" {
     fn mot_compute_iou_distance_matrix(
