@@ -1,4 +1,5 @@
--- What holds of a new slot, and of every slot that a booking leaves where it held before, holds of all slots in use after a frame where
+-- What holds of a new slot, and of every slot that a booking leaves where it held before, holds of all slots in use Rattle.std.specs.Prelude.{Option}
+use after a frame where
 -- it held of all before. Assumes nothing.
 use mathlib.Core.Path.{◌≡◌, refl, sym, subst}
 use mathlib.Core.Bool.{Bool, true, false, cond}
@@ -12,7 +13,6 @@ use lib.ListN.{length, set, get_or}
 use lib.Seq.{set-get_or, get_or-set_same, get_or-set_other}
 use lib.Ieee.{Float}
 use Rattle.slots.specs.declared.Slot.{Slot}
-use Rattle.slots.specs.declared.Partner.{Partner}
 use Rattle.ids.specs.declared.Lookup.{Lookup}
 use Rattle.ids.specs.declared.Lookup.TheVariants.{At, Absent}
 use Rattle.ids.specs.Ids.{seek_of}
@@ -43,7 +43,7 @@ module _ (P : Slot → Type 0) (slots : List Slot) (l : length slots ≡ 256) (k
   every_more n a i h = by_place i (eqb i k) refl n (λ q. a i (omega arith))
 
 -- ---- a booking that keeps it, and a new slot that has it
-module _ (P : Slot → Type 0) (new : (id f : ℤ) → P (new_slot id f)) (kept : (x : Slot) (to : Partner) (f : ℤ) → P x → P (booked_slot x to f).slot) where
+module _ (P : Slot → Type 0) (new : (id f : ℤ) → P (new_slot id f)) (kept : (x : Slot) (to : Option ℤ) (f : ℤ) → P x → P (booked_slot x to f).slot) where
   -- one row
   module _ (t : ExtendedMOTAccumulator) (r : Row) (f : ℤ) (l : length t.slots ≡ 256) (u : t.used ≤ 256) (a : Every P t.slots t.used) where
     abbrev Left : Spot → Type 0

@@ -1,4 +1,5 @@
 -- Whether no count has passed, as slots are booked without a bound. Assumes nothing.
+use Rattle.std.specs.Prelude.{Option, None, Some}
 use mathlib.Core.Path.{◌≡◌, refl, ◌∙◌}
 use mathlib.Core.Bool.{Bool, true, false, ◌&&◌, true≢false}
 use mathlib.Core.List.{List, [], ◌∷◌, ◌++◌}
@@ -12,41 +13,39 @@ use Rattle.lifecycle.specs.Lifecycle.{counts_fit, matched_after, missed_after, f
 use Rattle.lifecycle.proofs.Final.{match_final, miss_final, match_past, miss_past}
 use Rattle.lifecycle.proofs.Kept.{match_id, miss_id}
 use Rattle.slots.specs.declared.Slot.{Slot}
-use Rattle.slots.specs.declared.Partner.{Partner}
-use Rattle.slots.specs.declared.Partner.TheVariants.{Nobody, Id}
 use Rattle.slots.specs.Slots.{new_slot, no_slot, id_of, booked_slot, missed_slot, matched_slot}
 use Rattle.frame.specs.Unbounded.{next_slot, switch_of, all_fit}
 
 -- ---- one slot
-pub next_id : (s : Slot) (to : Partner) (f : ℤ) → id_of (next_slot s to f) ≡ id_of s
-next_id s Nobody f = miss_id s.lifecycle f
-next_id s (Id to) f = match_id s.lifecycle f
+pub next_id : (s : Slot) (to : Option ℤ) (f : ℤ) → id_of (next_slot s to f) ≡ id_of s
+next_id s None f = miss_id s.lifecycle f
+next_id s (Some to) f = match_id s.lifecycle f
 
-pub next_past : (s : Slot) (to : Partner) (f : ℤ) → counts_fit s.lifecycle ≡ false → counts_fit (next_slot s to f).lifecycle ≡ false
-next_past s Nobody f e = miss_past s.lifecycle f e
-next_past s (Id to) f e = match_past s.lifecycle f e
+pub next_past : (s : Slot) (to : Option ℤ) (f : ℤ) → counts_fit s.lifecycle ≡ false → counts_fit (next_slot s to f).lifecycle ≡ false
+next_past s None f e = miss_past s.lifecycle f e
+next_past s (Some to) f e = match_past s.lifecycle f e
 
 -- booked within the bounds, a slot is the next one exactly where that one's counts fit
-pub booked_fits : (s : Slot) (to : Partner) (f : ℤ) → counts_fit s.lifecycle ≡ true → counts_fit (next_slot s to f).lifecycle ≡ true
+pub booked_fits : (s : Slot) (to : Option ℤ) (f : ℤ) → counts_fit s.lifecycle ≡ true → counts_fit (next_slot s to f).lifecycle ≡ true
     → booked_slot s to f ≡ record { slot = next_slot s to f; over = false; switched = switch_of s to }
 unfolding missed_slot matched_slot
-booked_fits s Nobody f e g = rw (miss_final s.lifecycle f e ∙ g)
-booked_fits s (Id to) f e g = rw (match_final s.lifecycle f ∙ g)
+booked_fits s None f e g = rw (miss_final s.lifecycle f e ∙ g)
+booked_fits s (Some to) f e g = rw (match_final s.lifecycle f ∙ g)
 
-pub booked_past : (s : Slot) (to : Partner) (f : ℤ) → counts_fit s.lifecycle ≡ true → counts_fit (next_slot s to f).lifecycle ≡ false
+pub booked_past : (s : Slot) (to : Option ℤ) (f : ℤ) → counts_fit s.lifecycle ≡ true → counts_fit (next_slot s to f).lifecycle ≡ false
     → booked_slot s to f ≡ record { slot = s; over = true; switched = false }
 unfolding missed_slot matched_slot
-booked_past s Nobody f e g = rw (miss_final s.lifecycle f e ∙ g)
-booked_past s (Id to) f e g = rw (match_final s.lifecycle f ∙ g)
+booked_past s None f e g = rw (miss_final s.lifecycle f e ∙ g)
+booked_past s (Some to) f e g = rw (match_final s.lifecycle f ∙ g)
 
 pub new_fits : (id f : ℤ) → counts_fit (new_slot id f).lifecycle ≡ true
 unfolding counts_fit fits
 new_fits id f = refl
 
-pub new_next_fits : (id : ℤ) (to : Partner) (f : ℤ) → counts_fit (next_slot (new_slot id f) to f).lifecycle ≡ true
+pub new_next_fits : (id : ℤ) (to : Option ℤ) (f : ℤ) → counts_fit (next_slot (new_slot id f) to f).lifecycle ≡ true
 unfolding counts_fit fits missed_after matched_after fragments
-new_next_fits id Nobody f = refl
-new_next_fits id (Id to) f = refl
+new_next_fits id None f = refl
+new_next_fits id (Some to) f = refl
 
 -- ---- all slots
 pub fit_at : (l : List Slot) (k : ℕ) → all_fit l ≡ true → k < length l → counts_fit (get_or l k no_slot).lifecycle ≡ true
@@ -84,7 +83,7 @@ rest_past : (a b y : Bool) → (b ≡ false → y ≡ false) → (a && b) ≡ fa
 rest_past true b y p e = p e
 rest_past false b y p e = refl
 
-pub past_stays : (l : List Slot) (k : ℕ) (to : Partner) (f : ℤ) → all_fit l ≡ false → all_fit (set l k (next_slot (get_or l k no_slot) to f)) ≡ false
+pub past_stays : (l : List Slot) (k : ℕ) (to : Option ℤ) (f : ℤ) → all_fit l ≡ false → all_fit (set l k (next_slot (get_or l k no_slot) to f)) ≡ false
 unfolding all_fit
 past_stays [] k to f e = e
 past_stays (s ∷ ss) zero to f e = keep_past (counts_fit s.lifecycle) (all_fit ss) (counts_fit (next_slot s to f).lifecycle) (next_past s to f) e

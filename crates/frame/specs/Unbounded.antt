@@ -1,11 +1,10 @@
 -- A frame's booking without any bound: a table that grows with every new id, and counters that grow past every type. Refusals
 -- 5 and 7 speak of what would come of it: document 01's final values.
+use Rattle.std.specs.Prelude.{Option, None, Some}
 use Rattle.std.specs.Prelude.{Bool, true, false, ◌&&◌, cond, List, [], ◌∷◌, ◌++◌, map, ℕ, zero, suc, ◌+◌, ltb, ℤ, length, get_or, set, take}
 use Rattle.counts.specs.Counts.{one_if}
 use Rattle.lifecycle.specs.Lifecycle.{matched_after, missed_after, counts_fit}
 use Rattle.slots.specs.declared.Slot.{Slot}
-use Rattle.slots.specs.declared.Partner.{Partner}
-use Rattle.slots.specs.declared.Partner.TheVariants.{Nobody, Id}
 use Rattle.ids.specs.declared.Lookup.{Lookup}
 use Rattle.ids.specs.declared.Lookup.TheVariants.{At, Absent}
 use Rattle.ids.specs.Ids.{seek_of}
@@ -15,13 +14,13 @@ use Rattle.rows.specs.declared.Row.{Row}
 use Rattle.frame.specs.Frame.{room_for_all, shares_of, next_frame}
 
 -- a slot after a miss or a match, whatever its counts
-abbrev pub next_slot : Slot → Partner → ℤ → Slot
-next_slot s Nobody f = record { lifecycle = missed_after s.lifecycle f; partner = s.partner }
-next_slot s (Id to) f = record { lifecycle = matched_after s.lifecycle f; partner = Id to }
+abbrev pub next_slot : Slot → Option ℤ → ℤ → Slot
+next_slot s None f = record { lifecycle = missed_after s.lifecycle f; partner = s.partner }
+next_slot s (Some to) f = record { lifecycle = matched_after s.lifecycle f; partner = Some to }
 
-abbrev pub switch_of : Slot → Partner → Bool
-switch_of s Nobody = false
-switch_of s (Id to) = switches s.partner to
+abbrev pub switch_of : Slot → Option ℤ → Bool
+switch_of s None = false
+switch_of s (Some to) = switches s.partner to
 
 -- the slots in use, and the switches of the frame
 pub record Tally : Type 0 where

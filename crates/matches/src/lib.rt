@@ -9,14 +9,13 @@ ghost use Rattle.partners.specs.Partners.{truths_of, last_in, pairs_of, booked_o
 use counts::wide;
 use ids::Lookup;
 use partners::{Booked, Last, Truths};
-use slots::Partner;
 
 // The last partner of an id that was looked up, where this one stands at its place.
-fn last_in(found: Lookup, last: Last) -> Partner
+fn last_in(found: Lookup, last: Last) -> Option<i32>
     ensures { result ≡ last_in found last }
 {
     let Lookup::At(_) = found else {
-        return Partner::Nobody;
+        return None;
     };
     last.partner
 }
@@ -62,7 +61,7 @@ fn book_pairs(
         switched[i] = slots::is_switch(last, to);
         ids[at] = id;
         lasts[at] = Last {
-            partner: Partner::Id(to),
+            partner: Some(to),
         };
         used = seen::used_with(found, used);
         i = i + 1;

@@ -1,4 +1,5 @@
 -- The table read as a map: after a pair its truth id's last partner is its hypothesis, and every other id keeps its own. Assumes nothing.
+use Rattle.std.specs.Prelude.{Some}
 use mathlib.Core.Path.{◌≡◌, refl, sym, ap, ◌∙◌}
 use mathlib.Core.Bool.{Bool, true, false, cond, true≢false}
 use mathlib.Core.List.{List, [], ◌∷◌, ◌++◌}
@@ -11,7 +12,6 @@ use Rattle.counts.specs.Counts.{same_id}
 use Rattle.counts.proofs.Ids.{same_refl}
 use Rattle.ids.specs.declared.Lookup.{Lookup}
 use Rattle.ids.specs.declared.Lookup.TheVariants.{At, Absent}
-use Rattle.slots.specs.declared.Partner.TheVariants.{Id}
 use Rattle.ids.specs.Ids.{seek_from, seek_of}
 use Rattle.ids.proofs.Lookups.{found_below}
 use Rattle.seen.proofs.Growth.{found_there}
@@ -51,7 +51,7 @@ module _ (t : Table) (p : Pair) (l : length t.lasts ≡ length t.ids) where
   abbrev next : Last
   next = last_is p.hypothesis
 
-  set_at : (o : Lookup) → seek_of t.ids p.truth ≡ o → last_of (match_at t p o) p.truth ≡ Id p.hypothesis
+  set_at : (o : Lookup) → seek_of t.ids p.truth ≡ o → last_of (match_at t p o) p.truth ≡ Some p.hypothesis
   unfolding match_at
   set_at (At k) e =
       let h = found_below 0 t.ids p.truth k e in
@@ -60,7 +60,7 @@ module _ (t : Table) (p : Pair) (l : length t.lasts ≡ length t.ids) where
       ap (last_at (t.lasts ++ (next ∷ []))) (seek_last 0 t.ids p.truth e)
       ∙ ap (λ (x : Last). x.partner) (get_or_at t.lasts next [] nobody (0 + length t.ids) (omega arith))
 
-  pub last_set : last_of (match_one t p) p.truth ≡ Id p.hypothesis
+  pub last_set : last_of (match_one t p) p.truth ≡ Some p.hypothesis
   last_set = set_at (seek_of t.ids p.truth) refl
 
   module _ (id : ℤ) (d : same_id p.truth id ≡ false) where

@@ -1,4 +1,5 @@
--- One turn of the booking of pairs: the table in use is the definition's, and what lies beyond it is kept. Assumes nothing.
+-- One turn of the booking of pairs: the table in use Rattle.std.specs.Prelude.{Option}
+use is the definition's, and what lies beyond it is kept. Assumes nothing.
 use mathlib.Core.Path.{◌≡◌, refl, sym, ap, ◌∙◌, subst}
 use mathlib.Core.Bool.{Bool, true, false}
 use mathlib.Core.List.{List, [], ◌∷◌, ◌++◌, map, append_assoc, append-nil}
@@ -13,7 +14,6 @@ use mir.Val.{to_z, of_z}
 use lib.ListN.{length, take, drop, set, get_or, length-append, length-set, length-map, drop_of_length-le, get_or-map}
 use lib.Seq.{length-take-le, take-set-lt, take-suc-set, drop-set-lt, get_or-take, drop-cons}
 use Rattle.counts.proofs.Ids.{Small, back}
-use Rattle.slots.specs.declared.Partner.{Partner}
 use Rattle.ids.specs.declared.Lookup.{Lookup}
 use Rattle.ids.specs.declared.Lookup.TheVariants.{At, Absent}
 use Rattle.ids.specs.Ids.{seek_of}
@@ -166,7 +166,7 @@ module _ (t : Truths) (ps : List Pair) (ids : List ℤ) (lasts : List Last) (use
       let r' : place_of o used < 256 = rw at_is at r in
       let w = by_lookup ids lasts used p (omega arith) (g.lasts_long ∙ sym n) o refl (omega arith) in
       let b_is : b ≡ switches (last_at (take used lasts) o) p.hypothesis =
-      s ∙ ((λ j. switches (last_in (x_is j) (get_or lasts (at_is j) nobody)) (f j)) ∙ ap (λ (y : Partner). switches y p.hypothesis) w.2) in
+      s ∙ ((λ j. switches (last_in (x_is j) (get_or lasts (at_is j) nobody)) (f j)) ∙ ap (λ (y : Option ℤ). switches y p.hypothesis) w.2) in
       rw (b_is, at_is, used_is, e, f) (books_at h r')
 
   pub fills : (id : ℤ) (x : Lookup) (at : ℕ) → id ≡ p.truth → x ≡ seek_of (take used ids) id → at ≡ place_of x used → 256 ≤ at

@@ -1,8 +1,7 @@
 -- Document 01, "Lifecycles and events" and refusal 5: truth ids and their last partners over the pairs of a frame, first without a
 -- bound and then in a table of 256 places.
+use Rattle.std.specs.Prelude.{Option, None, Some}
 use Rattle.std.specs.Prelude.{Bool, true, false, cond, ◌&&◌, List, [], ◌∷◌, ◌++◌, map, ℕ, ◌/◌, ◌%◌, ◌-◌, ltb, ℤ, pos, length, take, get_or, set, replicate}
-use Rattle.slots.specs.declared.Partner.{Partner}
-use Rattle.slots.specs.declared.Partner.TheVariants.{Nobody, Id}
 use Rattle.ids.specs.declared.Lookup.{Lookup}
 use Rattle.ids.specs.declared.Lookup.TheVariants.{At, Absent}
 use Rattle.ids.specs.Ids.{seek_of}
@@ -14,10 +13,10 @@ use Rattle.partners.specs.declared.Booked.{Booked}
 use Rattle.partners.specs.declared.SeenTruths.{SeenTruths}
 
 abbrev pub nobody : Last
-nobody = record { partner = Nobody }
+nobody = record { partner = None }
 
 abbrev pub last_is : ℤ → Last
-last_is to = record { partner = Id to }
+last_is to = record { partner = Some to }
 
 abbrev pub truths_of : List ℤ → List Last → ℕ → Truths
 truths_of ids lasts used = record { ids = ids; lasts = lasts; used = used }
@@ -44,16 +43,16 @@ pub record Table : Type 0 where
   pub ids : List ℤ
   pub lasts : List Last
 
-abbrev pub last_in : Lookup → Last → Partner
+abbrev pub last_in : Lookup → Last → Option ℤ
 last_in (At k) last = last.partner
-last_in Absent last = Nobody
+last_in Absent last = None
 
-abbrev pub last_at : List Last → Lookup → Partner
+abbrev pub last_at : List Last → Lookup → Option ℤ
 last_at lasts (At k) = (get_or lasts k nobody).partner
-last_at lasts Absent = Nobody
+last_at lasts Absent = None
 
 -- the last partner of an id; nobody where the id has no place
-abbrev pub last_of : Table → ℤ → Partner
+abbrev pub last_of : Table → ℤ → Option ℤ
 last_of t id = last_at t.lasts (seek_of t.ids id)
 
 -- one pair: the id's own place is set, or it gets one after the others

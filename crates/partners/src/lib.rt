@@ -7,12 +7,11 @@ ghost use Rattle.std.specs.Prelude.{◌≡◌, ◌++◌, ◌-◌, ◌≤◌, tak
 ghost use Rattle.seen.specs.Seen.{over};
 ghost use Rattle.partners.specs.Partners.{nobody, truths_of, new_truths, ids_sound, truths_sound, seen_truths};
 
-use slots::Partner;
 
 // The hypothesis that a truth id was last matched to, or nobody. (A struct, as an array in a table holds no enum.)
 #[derive(Clone, Copy)]
 pub struct Last {
-    pub partner: Partner,
+    pub partner: Option<i32>,
 }
 
 // Truth ids in the first used places, in order of first booking, each with its last partner.
@@ -44,7 +43,7 @@ impl Truths {
         ensures { result ≡ new_truths }
     {
         let nobody = Last {
-            partner: Partner::Nobody,
+            partner: None,
         };
         Self {
             ids: [0i32; 256],
@@ -77,7 +76,7 @@ fn with_nobody(old: [Last; 256], from: usize, to: usize) -> [Last; 256]
     let mut k = from;
     while k < to {
         lasts[k] = Last {
-            partner: Partner::Nobody,
+            partner: None,
         };
         k = k + 1;
     }

@@ -1,10 +1,10 @@
 -- Document 01, "Lifecycles and events": the booking of a frame's rows, on trial. Refusals 5 and 7 are read off its flags.
+use Rattle.std.specs.Prelude.{None, Some}
 use Rattle.std.specs.Prelude.{Bool, true, false, ◌||◌, cond, List, ℕ, zero, suc, ◌+◌, ◌-◌, ◌<◌, ◌≤◌, ltb, ℤ, pos, get_or, set, replicate}
 use Rattle.floats.specs.Float.{zero64}
 use Rattle.counts.specs.Counts.{one_if}
 use Rattle.slots.specs.declared.Slot.{Slot}
 use Rattle.slots.specs.declared.BookedSlot.{BookedSlot}
-use Rattle.slots.specs.declared.Partner.TheVariants.{Nobody, Id}
 use Rattle.ids.specs.declared.Lookup.{Lookup}
 use Rattle.ids.specs.declared.Lookup.TheVariants.{At, Absent}
 use Rattle.ids.specs.Ids.{seek_of}
@@ -41,8 +41,8 @@ pub record Lies (gt pred : ℕ) (pair_rows pair_cols left_rows : List ℕ) (pair
 -- "matched rows are booked before missed rows": row k in the order of booking
 unfoldable pub row_at : List ℤ → List ℤ → List ℕ → List ℕ → List ℕ → ℕ → ℕ → Row
 row_at gt pred pair_rows pair_cols left_rows pairs k =
-    cond (ltb k pairs) (record { id = get_or gt (get_or pair_rows k 0) (pos 0); to = Id (get_or pred (get_or pair_cols k 0) (pos 0)) })
-    (record { id = get_or gt (get_or left_rows (k - pairs) 0) (pos 0); to = Nobody })
+    cond (ltb k pairs) (record { id = get_or gt (get_or pair_rows k 0) (pos 0); to = Some (get_or pred (get_or pair_cols k 0) (pos 0)) })
+    (record { id = get_or gt (get_or left_rows (k - pairs) 0) (pos 0); to = None })
 
 -- ---- one row
 -- the id's own place, else the one after the used ones, else none: full

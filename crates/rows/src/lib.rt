@@ -6,7 +6,7 @@ ghost use Rattle.std.specs.Prelude.{◌≡◌, ◌+◌, ◌<◌, ◌≤◌, leng
 ghost use Rattle.rows.specs.Rows.{new_state, Lies, row_at, spot_of, step_of};
 
 use ids::Lookup;
-use slots::{Partner, Slot};
+use slots::Slot;
 
 // What an accumulator has counted so far, and its table: the first used slots, in order of first booking.
 #[derive(Clone, Copy)]
@@ -46,7 +46,7 @@ impl ExtendedMOTAccumulator {
 #[derive(Clone, Copy)]
 pub struct Row {
     pub id: i32,
-    pub to: Partner,
+    pub to: Option<i32>,
 }
 
 // Where a row is booked: at the place of its id, at a fresh one after the used ones, or nowhere.
@@ -96,13 +96,13 @@ pub fn row_at(
         let j = pair_cols[k];
         return Row {
             id: gt_ids[i],
-            to: Partner::Id(pred_ids[j]),
+            to: Some(pred_ids[j]),
         };
     }
     let i = left_rows[k - pairs];
     Row {
         id: gt_ids[i],
-        to: Partner::Nobody,
+        to: None,
     }
 }
 

@@ -1,18 +1,17 @@
 -- A slot read back from its numbers. Assumes nothing.
+use Rattle.std.specs.Prelude.{Option, None, Some}
 use mathlib.Core.Path.{◌≡◌, refl}
 use mathlib.Core.Bool.{Bool, true, false}
 use Rattle.slots.specs.declared.Slot.{Slot}
-use Rattle.slots.specs.declared.Partner.{Partner}
-use Rattle.slots.specs.declared.Partner.TheVariants.{Nobody, Id}
 use Rattle.slot_cells.specs.Cells.{is_set, flag_of, partner_of, known_of, partner_id, slot_of, cells_of}
 
 flag_back : (b : Bool) → is_set (flag_of b) ≡ b
 flag_back true = refl
 flag_back false = refl
 
-partner_back : (p : Partner) → partner_of (known_of p) (partner_id p) ≡ p
-partner_back Nobody = refl
-partner_back (Id id) = refl
+partner_back : (p : Option ℤ) → partner_of (known_of p) (partner_id p) ≡ p
+partner_back None = refl
+partner_back (Some id) = refl
 
 pub slot_back : (x : Slot) → slot_of (cells_of x) ≡ x
 unfolding slot_of cells_of

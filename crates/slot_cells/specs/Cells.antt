@@ -1,9 +1,8 @@
 -- A slot and its nine numbers. Definitions only.
+use Rattle.std.specs.Prelude.{Option, None, Some}
 use Rattle.std.specs.Prelude.{Bool, not, cond, ℤ, pos}
 use Rattle.counts.specs.Counts.{same_id}
 use Rattle.slots.specs.declared.Slot.{Slot}
-use Rattle.slots.specs.declared.Partner.{Partner}
-use Rattle.slots.specs.declared.Partner.TheVariants.{Nobody, Id}
 use Rattle.slot_cells.specs.declared.Cells.{Cells}
 
 -- a flag is set where it isn't 0
@@ -14,17 +13,17 @@ abbrev pub flag_of : Bool → ℤ
 flag_of is = cond is (pos 1) (pos 0)
 
 -- the last partner, where it is known
-abbrev pub partner_of : ℤ → ℤ → Partner
-partner_of known partner = cond (is_set known) (Id partner) Nobody
+abbrev pub partner_of : ℤ → ℤ → Option ℤ
+partner_of known partner = cond (is_set known) (Some partner) None
 
-abbrev pub known_of : Partner → ℤ
-known_of Nobody = pos 0
-known_of (Id id) = pos 1
+abbrev pub known_of : Option ℤ → ℤ
+known_of None = pos 0
+known_of (Some id) = pos 1
 
 -- 0 where it is not
-abbrev pub partner_id : Partner → ℤ
-partner_id Nobody = pos 0
-partner_id (Id id) = id
+abbrev pub partner_id : Option ℤ → ℤ
+partner_id None = pos 0
+partner_id (Some id) = id
 
 unfoldable pub slot_of : Cells → Slot
 slot_of v =

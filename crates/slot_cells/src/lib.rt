@@ -5,7 +5,7 @@ ghost use Rattle.std.specs.Prelude.{◌≡◌};
 ghost use Rattle.slot_cells.specs.Cells.{is_set, flag_of, known_of, partner_id, partner_of, slot_of, cells_of};
 
 use lifecycle::TrackLifecycle;
-use slots::{Partner, Slot};
+use slots::Slot;
 
 // The nine numbers of a slot, one of each column. A flag is 0 or not; a partner counts where it is known.
 #[derive(Clone, Copy)]
@@ -28,13 +28,13 @@ fn is_set(flag: i32) -> bool
 }
 
 // The last partner, where it is known.
-pub fn partner_of(known: i32, partner: i32) -> Partner
+pub fn partner_of(known: i32, partner: i32) -> Option<i32>
     ensures { result ≡ partner_of known partner }
 {
     if is_set(known) {
-        return Partner::Id(partner);
+        return Some(partner);
     }
-    Partner::Nobody
+    None
 }
 
 // The slot that nine numbers stand for.
@@ -63,21 +63,21 @@ fn flag_of(is: bool) -> i32
     if is { 1 } else { 0 }
 }
 
-fn known_of(partner: Partner) -> i32
+fn known_of(partner: Option<i32>) -> i32
     ensures { result ≡ known_of partner }
 {
     match partner {
-        Partner::Nobody => 0,
-        Partner::Id(_) => 1,
+        None => 0,
+        Some(_) => 1,
     }
 }
 
-fn partner_id(partner: Partner) -> i32
+fn partner_id(partner: Option<i32>) -> i32
     ensures { result ≡ partner_id partner }
 {
     match partner {
-        Partner::Nobody => 0,
-        Partner::Id(id) => id,
+        None => 0,
+        Some(id) => id,
     }
 }
 

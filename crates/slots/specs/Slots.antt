@@ -1,16 +1,15 @@
 -- Document 01, "Lifecycles and events": the slot of a truth id, its booking, and refusal 1 for a table.
+use Rattle.std.specs.Prelude.{Option, None, Some}
 use Rattle.std.specs.Prelude.{Bool, true, false, not, ◌&&◌, cond, List, [], ◌∷◌, ◌++◌, map, ℕ, ◌-◌, leb, ℤ, pos, take, replicate}
 use Rattle.counts.specs.Counts.{same_id}
 use Rattle.ids.specs.Ids.{distinct_of}
 use Rattle.lifecycle.specs.declared.TrackLifecycle.{TrackLifecycle}
 use Rattle.lifecycle.specs.Lifecycle.{fresh, matched_after, missed_after, room_to_match, room_to_miss, sound_counts}
 use Rattle.slots.specs.declared.Slot.{Slot}
-use Rattle.slots.specs.declared.Partner.{Partner}
-use Rattle.slots.specs.declared.Partner.TheVariants.{Nobody, Id}
 use Rattle.slots.specs.declared.BookedSlot.{BookedSlot}
 
 abbrev pub new_slot : ℤ → ℤ → Slot
-new_slot id frame = record { lifecycle = fresh id frame; partner = Nobody }
+new_slot id frame = record { lifecycle = fresh id frame; partner = None }
 
 -- what stands past the end of a list of slots; no definition turns on it
 abbrev pub no_slot : Slot
@@ -30,12 +29,12 @@ ids_filled slots used = ids_of slots used ++ replicate (256 - used) (pos 0)
 
 -- ---- the booking of one slot
 -- "a switch is a match to a different id from that truth id's last one, however many misses lie between"
-abbrev pub switches : Partner → ℤ → Bool
-switches Nobody to = false
-switches (Id before) to = not (same_id before to)
+abbrev pub switches : Option ℤ → ℤ → Bool
+switches None to = false
+switches (Some before) to = not (same_id before to)
 
 -- with room the next lifecycle; without it the slot as it was, marked as over
-abbrev pub booked_if : Bool → Slot → TrackLifecycle → Partner → Bool → BookedSlot
+abbrev pub booked_if : Bool → Slot → TrackLifecycle → Option ℤ → Bool → BookedSlot
 booked_if room slot next partner switched =
     cond room (record { slot = record { lifecycle = next; partner = partner }; over = false; switched = switched })
     (record { slot = slot; over = true; switched = false })
@@ -45,11 +44,11 @@ unfoldable pub missed_slot : Slot → ℤ → BookedSlot
 missed_slot s frame = booked_if (room_to_miss s.lifecycle) s (missed_after s.lifecycle frame) s.partner false
 
 unfoldable pub matched_slot : Slot → ℤ → ℤ → BookedSlot
-matched_slot s to frame = booked_if (room_to_match s.lifecycle) s (matched_after s.lifecycle frame) (Id to) (switches s.partner to)
+matched_slot s to frame = booked_if (room_to_match s.lifecycle) s (matched_after s.lifecycle frame) (Some to) (switches s.partner to)
 
-abbrev pub booked_slot : Slot → Partner → ℤ → BookedSlot
-booked_slot s Nobody frame = missed_slot s frame
-booked_slot s (Id to) frame = matched_slot s to frame
+abbrev pub booked_slot : Slot → Option ℤ → ℤ → BookedSlot
+booked_slot s None frame = missed_slot s frame
+booked_slot s (Some to) frame = matched_slot s to frame
 
 -- ---- refusal 1
 -- no negative count in the slots

@@ -8,17 +8,11 @@ ghost use Rattle.slots.specs.Slots.{new_slot, switches, missed_slot, matched_slo
 
 use lifecycle::TrackLifecycle;
 
-// The prediction that a truth id was last matched to, or none yet.
-#[derive(Clone, Copy)]
-pub enum Partner {
-    Nobody,
-    Id(i32),
-}
 
 #[derive(Clone, Copy)]
 pub struct Slot {
     pub lifecycle: TrackLifecycle,
-    pub partner: Partner,
+    pub partner: Option<i32>,
 }
 
 // A slot after a frame in which its id stood: the slot as it was, and over, where a count would pass.
@@ -35,15 +29,15 @@ pub fn new_slot(id: i32, frame: i32) -> Slot
 {
     Slot {
         lifecycle: TrackLifecycle::new(id, frame),
-        partner: Partner::Nobody,
+        partner: None,
     }
 }
 
 // Whether a match is a switch: the id was matched before, and to another.
-pub fn is_switch(last: Partner, to: i32) -> bool
+pub fn is_switch(last: Option<i32>, to: i32) -> bool
     ensures { result ≡ switches last to }
 {
-    let Partner::Id(before) = last else {
+    let Some(before) = last else {
         return false;
     };
     !counts::same_id(before, to)
@@ -89,7 +83,7 @@ fn book_matched(slot: Slot, to: i32, frame: i32) -> BookedSlot
     BookedSlot {
         slot: Slot {
             lifecycle: matched,
-            partner: Partner::Id(to),
+            partner: Some(to),
         },
         over: false,
         switched: switched,
@@ -97,11 +91,11 @@ fn book_matched(slot: Slot, to: i32, frame: i32) -> BookedSlot
 }
 
 // A slot after a frame that its id was matched in, or missed: matched to is an id, or nobody.
-pub fn book_slot(slot: Slot, to: Partner, frame: i32) -> BookedSlot
+pub fn book_slot(slot: Slot, to: Option<i32>, frame: i32) -> BookedSlot
     ensures { result ≡ booked_slot slot to frame }
 {
     match to {
-        Partner::Nobody => book_missed(slot, frame),
-        Partner::Id(id) => book_matched(slot, id, frame),
+        None => book_missed(slot, frame),
+        Some(id) => book_matched(slot, id, frame),
     }
 }

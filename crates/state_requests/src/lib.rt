@@ -9,11 +9,11 @@ use lines::output::Writer;
 use lines::session::{say_count, say_float, say_whole};
 use lines::{input, output};
 use rows::ExtendedMOTAccumulator;
-use slots::{Partner, Slot};
+use slots::Slot;
 
 #[derive(Clone, Copy)]
 pub struct ReadPartner {
-    pub partner: Partner,
+    pub partner: Option<i32>,
     pub reader: Reader,
 }
 
@@ -35,7 +35,7 @@ fn read_known(from: &mut [u8; 65536], r: Reader) -> ReadPartner {
     let id = input::whole(from, r);
     let reader = id.reader;
     ReadPartner {
-        partner: Partner::Id(id.value),
+        partner: Some(id.value),
         reader,
     }
 }
@@ -48,7 +48,7 @@ pub fn read_partner(from: &mut [u8; 65536], r: Reader) -> ReadPartner {
     }
     let reader = known.reader;
     ReadPartner {
-        partner: Partner::Nobody,
+        partner: None,
         reader,
     }
 }
@@ -135,10 +135,10 @@ pub fn read_state(from: &mut [u8; 65536], r: Reader) -> ReadState {
     )
 }
 
-pub fn say_partner(to: &mut [u8; 65536], w: Writer, p: Partner) -> Writer {
+pub fn say_partner(to: &mut [u8; 65536], w: Writer, p: Option<i32>) -> Writer {
     match p {
-        Partner::Nobody => output::text(to, w, b" 0"),
-        Partner::Id(id) => say_known(to, w, id),
+        None => output::text(to, w, b" 0"),
+        Some(id) => say_known(to, w, id),
     }
 }
 
