@@ -23,6 +23,7 @@ fn list_unmarked_at(marks: &[bool; 64], n: usize, out: &mut [usize], at: usize) 
     square::pick(marks, n, false, &mut out[at..at + 64])
 }
 
+// Kept: a loop beside that of `optimize`, by the C interface: a column of rows and one of columns, and no pairs.
 // The rows and columns of the pairs that pass, by rising row, and how many; with marks at their rows and columns.
 fn keep_pairs_at(
     cost: &[f64],
@@ -70,7 +71,7 @@ pub fn write_rows_alone(rows: usize, out: &mut [usize])
     write_counts(&[0, left, 0, 0, 0], out);
 }
 
-/// The answer of steps A to G and of max_cost.
+/// The answer of steps A to G and of `max_cost`.
 pub fn write_found(cost: &[f64], rows: usize, cols: usize, max_cost: f64, out: &mut [usize])
     requires { (rows ≤ 64) × (cols ≤ 64) × (length cost.now ≡ rows * cols) × (261 ≤ length out.old) }
     ensures { Found cost.now rows cols max_cost out.old out.new }

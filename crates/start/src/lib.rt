@@ -70,6 +70,7 @@ fn lower(c: &mut [f64], first: usize, step: usize, n: usize)
 }
 
 /// Step B's rows.
+// Kept: one function for rows and columns would take both strides as parameters, and is no plainer.
 #[tactic(auto, using(crate::proofs::StepsCode::rows_none, crate::proofs::StepsCode::rows_more))]
 pub fn lower_rows(c: &mut [f64], n: usize)
     requires { (n ≤ 64) × (n * 64 ≤ length c.old) }
