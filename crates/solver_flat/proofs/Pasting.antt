@@ -1,26 +1,15 @@
 -- Lists written over the places of a run: a store in one of them, what one leaves of the others, and the stores of a loop. Assumes nothing.
 use mathlib.Core.Path.{◌≡◌, refl, sym, ap, ◌∙◌}
-use mathlib.Core.List.{List, [], ◌∷◌, ◌++◌, append_assoc, map}
-use Prim.Native.Nat.{ℕ, zero, suc, ◌+◌, ◌-◌, ◌≤◌, ◌<◌}
-use native.Mathlib.Nat.{suc-add, zero-add}
+use mathlib.Core.List.{List, [], ◌∷◌, ◌++◌, append_assoc}
+use Prim.Native.Nat.{ℕ, ◌+◌, ◌-◌, ◌≤◌, ◌<◌}
 use native.Mathlib.Omega.{arith}
 use lib.ListN.{length, length-set, length-replicate, replicate, replicate-append-replicate, set, take, drop, take-append-drop}
 use lib.Seq.{drop_at, drop-drop, length_paste_head, length-take-le, set-append_left, take-add, take_all, take_at, take-paste, take-set-lt, drop-paste}
 use borrow.Rule.Slice.PartMut.{put_mid}
+use Rattle.std.proofs.lemmas.List.{set-append_right}
 use Rattle.std.proofs.lemmas.Slice.{put_mid-paste}
 use Rattle.std.proofs.lemmas.List.Edits.{length-paste}
 use Rattle.solver_flat.specs.Inner.{Clear, Pasted}
-
--- ---- a store behind the first of two lists
-set_append_right : (xs ys : List ℕ) (i v : ℕ) → set (xs ++ ys) (length xs + i) v ≡ xs ++ set ys i v
-set_append_right [] ys i v = ap (λ (k : ℕ). set ys k v) (zero-add i)
-set_append_right (x ∷ xs) ys i v = ap (λ (k : ℕ). set (x ∷ (xs ++ ys)) k v) (suc-add (length xs) i) ∙ ap (λ (r : List ℕ). x ∷ r) (set_append_right xs ys i v)
-
-pub map-set : {A : Type 0} (f : A → ℕ) (l : List A) (i : ℕ) (a : A) → map f (set l i a) ≡ set (map f l) i (f a)
-map-set f [] zero a = refl
-map-set f [] (suc i) a = refl
-map-set f (x ∷ l) zero a = refl
-map-set f (x ∷ l) (suc i) a = ap (λ (r : List ℕ). f x ∷ r) (map-set f l i a)
 
 module _ {d : List ℕ} {at : ℕ} {s : List ℕ} {o : List ℕ} (p : Pasted d at s 64 o) (room : at + 64 ≤ length d) (full : length s ≡ 64) where
   take_of : take (at + 64) o ≡ take at d ++ s
@@ -39,10 +28,11 @@ module _ {d : List ℕ} {at : ℕ} {s : List ℕ} {o : List ℕ} (p : Pasted d a
       let front = take at d in
       let back = drop (at + 64) d in
       let long = length-take-le at d (omega arith) in
+      let here : at + i - at ≡ i = omega arith in
       record {
         after_is = ap (λ (l : List ℕ). set l (at + i) v) p.after_is
             ∙ set-append_left (front ++ take 64 s) back (at + i) v (omega (arith, length_paste_head d at s 64 (omega arith) (omega arith)))
-            ∙ ap (λ (l : List ℕ). l ++ back) (ap (λ (k : ℕ). set (front ++ take 64 s) (k + i) v) (sym long) ∙ set_append_right front (take 64 s) i v
+            ∙ ap (λ (l : List ℕ). l ++ back) (set-append_right front (take 64 s) at (at + i) v long (omega arith) ∙ ap (λ (k : ℕ). front ++ set (take 64 s) k v) here
             ∙ ap (λ (l : List ℕ). front ++ l) (sym (take-set-lt 64 s i v less)));
         same_len = length-set o (at + i) v ∙ p.same_len;
       }

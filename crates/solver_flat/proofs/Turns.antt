@@ -13,9 +13,10 @@ use Rattle.optimize.specs.declared.Assignment.{Assignment}
 use Rattle.optimize.specs.declared.AssignmentResult.{AssignmentResult}
 use Rattle.optimize.specs.Answer.{Solved, keeps, pair_of, no_pair, rows_alone}
 use Rattle.optimize.proofs.Listing as listing
+use Rattle.std.proofs.lemmas.List.{map-set}
 use Rattle.solver_flat.specs.Flat.{rows_of, cols_of, flat_after}
 use Rattle.solver_flat.specs.Inner.{Clear, Pasted, PickedAt, PairsAt, Found}
-use Rattle.solver_flat.proofs.Pasting.{map-set, pasted_part, pasted_set, pasted_clear, run_is, clear_at, still_clear}
+use Rattle.solver_flat.proofs.Pasting.{pasted_part, pasted_set, pasted_clear, run_is, clear_at, still_clear}
 
 -- ---- the numbers that have no mark
 pub picked_at : (before : List ℕ) (at n : ℕ) (marks : List Bool) (used : ℕ) (places : List ℕ) (k : ℕ) → at + 64 ≤ length before → k ≡ 64 → length places ≡ 64
