@@ -1,14 +1,15 @@
 -- Where the lists of the solver's answer lie: rows below h, columns below w, and no more of them than there are. Assumes nothing.
-use Prim.Native.Nat.{ℕ, zero, suc, ◌+◌, ◌<◌, ◌≤◌}
+use Prim.Native.Nat.{ℕ, ◌+◌, ◌<◌, ◌≤◌}
 use mathlib.Core.Path.{◌≡◌, refl, sym, ap, ◌∙◌, subst}
 use mathlib.Core.Bool.{true}
-use mathlib.Core.List.{List, [], ◌∷◌, ◌++◌, map}
+use mathlib.Core.List.{List, ◌++◌, map}
 use mathlib.Core.Logic.{⊎_elim}
 use native.Mathlib.Omega.{arith}
 use native.Mathlib.Nat.{not-suc-le-zero}
 use lib.ListN.{length, get_or, take, length-append, get_or-append, get_or-eq_default}
 use lib.Seq.{get_or-take, get_or-append-add}
 use lib.Ieee.{Float}
+use Rattle.std.specs.List.{take-map}
 use Rattle.square.specs.Index.{Once, gather, filled}
 use Rattle.square.proofs.Index.{lt-or-ge}
 use Rattle.square.proofs.Count.{count_all}
@@ -46,11 +47,6 @@ pub record Placed (h w : ℕ) (r : AssignmentResult) : Type 0 where
   pub left_in : (k : ℕ) → k < r.num_unmatched_rows → get_or r.unmatched_rows k 0 < h
   pub extra_few : r.num_unmatched_cols ≤ w
 
-map-take : {A B : Type 0} (f : A → B) (n : ℕ) (l : List A) → map f (take n l) ≡ take n (map f l)
-map-take f zero l = refl
-map-take f (suc n) [] = refl
-map-take f (suc n) (x ∷ l) = ap (λ t. f x ∷ t) (map-take f n l)
-
 -- past a list's end stands 0, which is below too
 all_below : (b : ℕ) (l : List ℕ) → 0 < b → ((t : ℕ) → t < length l → get_or l t 0 < b) → (k : ℕ) → get_or l k 0 < b
 all_below b l some inside k = ⊎_elim
@@ -67,7 +63,7 @@ module _ (b : ℕ) (xs ys : List ℕ) (some : 0 < b) (o : Once b (xs ++ ys)) (k 
       (λ t l. subst (λ (x : ℕ). x < b) (get_or-append-add xs ys t 0) (o.inside (length xs + t) (rw length-append (omega arith)))) k
 
 in_pairs : (f : Assignment → ℕ) (b n : ℕ) (l : List Assignment) (k : ℕ) → k < n → get_or (map f (take n l)) k 0 < b → get_or (map f l) k 0 < b
-in_pairs f b n l k i below = subst (λ (x : ℕ). x < b) (ap (λ (z : List ℕ). get_or z k 0) (map-take f n l) ∙ get_or-take n (map f l) k 0 i) below
+in_pairs f b n l k i below = subst (λ (x : ℕ). x < b) (ap (λ (z : List ℕ). get_or z k 0) (sym (take-map f n l)) ∙ get_or-take n (map f l) k 0 i) below
 
 named_placed : (h w : ℕ) (r : AssignmentResult) → 0 < h → 0 < w → Named h w r → Placed h w r
 named_placed h w r h_some w_some n = record {

@@ -6,6 +6,7 @@ ghost use Rattle.solver.specs.Solution.{solution_of};
 
 use optimize::AssignmentResult;
 
+/// The one answer to a matrix of costs, a run, row after row: what of its best pairs costs at most `max_cost`.
 pub fn solve(cost: &[f64], rows: usize, cols: usize, max_cost: f64) -> AssignmentResult
     ensures { result ≡ solution_of cost.now rows cols max_cost }
 {

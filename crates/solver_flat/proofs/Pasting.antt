@@ -1,24 +1,15 @@
 -- Lists written over the places of a run: a store in one of them, what one leaves of the others, and the stores of a loop. Assumes nothing.
 use mathlib.Core.Path.{◌≡◌, refl, sym, ap, ◌∙◌}
-use mathlib.Core.List.{List, [], ◌∷◌, ◌++◌, append_assoc, map}
-use Prim.Native.Nat.{ℕ, zero, suc, ◌+◌, ◌-◌, ◌≤◌, ◌<◌}
-use native.Mathlib.Nat.{le_antisymm, suc-add, zero-add}
-use native.Mathlib.Numerals.{add-one}
+use mathlib.Core.List.{List, [], ◌∷◌, ◌++◌, append_assoc}
+use Prim.Native.Nat.{ℕ, ◌+◌, ◌-◌, ◌≤◌, ◌<◌}
 use native.Mathlib.Omega.{arith}
-use lib.ListN.{length, length-set, get_or-replicate, length-replicate, replicate, replicate-append-replicate, set, take, drop, take-append-drop}
-use lib.Seq.{drop_at, drop-drop, length_paste_head, length-take-le, paste, paste-suc, paste-zero, set-append_left, sets, sets-eq, length-sets, take-add, take_all, take_at, take-paste, take-set-lt, drop-paste}
+use lib.ListN.{length, length-set, length-replicate, replicate, replicate-append-replicate, set, take, drop, take-append-drop}
+use lib.Seq.{drop_at, drop-drop, length_paste_head, length-take-le, set-append_left, take-add, take_all, take_at, take-paste, take-set-lt, drop-paste}
+use borrow.Rule.Slice.PartMut.{put_mid}
+use Rattle.std.proofs.lemmas.List.{set-append_right}
+use Rattle.std.proofs.lemmas.Slice.{put_mid-paste}
+use Rattle.std.proofs.lemmas.List.Edits.{length-paste}
 use Rattle.solver_flat.specs.Inner.{Clear, Pasted}
-
--- ---- a store behind the first of two lists
-set_append_right : (xs ys : List ℕ) (i v : ℕ) → set (xs ++ ys) (length xs + i) v ≡ xs ++ set ys i v
-set_append_right [] ys i v = ap (λ (k : ℕ). set ys k v) (zero-add i)
-set_append_right (x ∷ xs) ys i v = ap (λ (k : ℕ). set (x ∷ (xs ++ ys)) k v) (suc-add (length xs) i) ∙ ap (λ (r : List ℕ). x ∷ r) (set_append_right xs ys i v)
-
-pub map-set : {A : Type 0} (f : A → ℕ) (l : List A) (i : ℕ) (a : A) → map f (set l i a) ≡ set (map f l) i (f a)
-map-set f [] zero a = refl
-map-set f [] (suc i) a = refl
-map-set f (x ∷ l) zero a = refl
-map-set f (x ∷ l) (suc i) a = ap (λ (r : List ℕ). f x ∷ r) (map-set f l i a)
 
 module _ {d : List ℕ} {at : ℕ} {s : List ℕ} {o : List ℕ} (p : Pasted d at s 64 o) (room : at + 64 ≤ length d) (full : length s ≡ 64) where
   take_of : take (at + 64) o ≡ take at d ++ s
@@ -37,10 +28,11 @@ module _ {d : List ℕ} {at : ℕ} {s : List ℕ} {o : List ℕ} (p : Pasted d a
       let front = take at d in
       let back = drop (at + 64) d in
       let long = length-take-le at d (omega arith) in
+      let here : at + i - at ≡ i = omega arith in
       record {
         after_is = ap (λ (l : List ℕ). set l (at + i) v) p.after_is
             ∙ set-append_left (front ++ take 64 s) back (at + i) v (omega (arith, length_paste_head d at s 64 (omega arith) (omega arith)))
-            ∙ ap (λ (l : List ℕ). l ++ back) (ap (λ (k : ℕ). set (front ++ take 64 s) (k + i) v) (sym long) ∙ set_append_right front (take 64 s) i v
+            ∙ ap (λ (l : List ℕ). l ++ back) (set-append_right front (take 64 s) at (at + i) v long (omega arith) ∙ ap (λ (k : ℕ). front ++ set (take 64 s) k v) here
             ∙ ap (λ (l : List ℕ). front ++ l) (sym (take-set-lt 64 s i v less)));
         same_len = length-set o (at + i) v ∙ p.same_len;
       }
@@ -57,20 +49,14 @@ pasted_clear d at s e c = record {
   same_len = refl;
 }
 
--- ---- the loop that clears n places
-module _ (before : List ℕ) (n : ℕ) where
-  pub cleared_none : Pasted before 5 (replicate n 0) 0 before
-  cleared_none = record { after_is = paste-zero before 5 (replicate n 0); same_len = refl }
+-- ---- a part of the run that was written over
+pub pasted_part : (before : List ℕ) (at k : ℕ) (list ys : List ℕ) (n : ℕ) → at + n ≤ length before → ys ≡ list → n ≡ k → n ≡ length list → Pasted before at list n (put_mid at k before ys)
+pasted_part before at k list ys n room e q l =
+    let is = put_mid-paste at k before ys list n e q l in
+    record { after_is = is; same_len = ap length is ∙ length-paste before at list n room (omega arith) }
 
-  pub cleared_more : {i : ℕ} {out : List ℕ} → 5 + n ≤ length before → i < n → Pasted before 5 (replicate n 0) i out → Pasted before 5 (replicate n 0) (i + 1) (set out (5 + i) 0)
-  cleared_more {i} {out} room less p = record {
-    after_is = ap (λ (l : List ℕ). set l (5 + i) 0) p.after_is ∙ ap (set (paste before 5 (replicate n 0) i) (5 + i)) (sym (get_or-replicate {A = ℕ} n i 0 0 less))
-        ∙ paste-suc before 5 (replicate n 0) i 0 (omega arith) (omega (arith, length-replicate {A = ℕ} n 0)) ∙ ap (paste before 5 (replicate n 0)) (sym (add-one i));
-    same_len = length-set out (5 + i) 0 ∙ p.same_len;
-  }
-
-  pub cleared_all : {i : ℕ} {out : List ℕ} → i ≤ n → n ≤ i → Pasted before 5 (replicate n 0) i out → Pasted before 5 (replicate n 0) n out
-  cleared_all a b p = record { after_is = p.after_is ∙ ap (paste before 5 (replicate n 0)) (le_antisymm a b); same_len = p.same_len }
+pub pasted_zeros : (before ys : List ℕ) → 261 ≤ length before → ys ≡ replicate 256 0 → Pasted before 5 (replicate 256 0) 256 (put_mid 5 256 before ys)
+pasted_zeros before ys room e = pasted_part before 5 256 (replicate 256 0) ys 256 room e refl (sym (length-replicate {A = ℕ} 256 0))
 
 module _ {d o : List ℕ} {n : ℕ} (p : Pasted d 5 (replicate n 0) n o) (room : 5 + n ≤ length d) where
   pub cleared_behind : drop (5 + n) o ≡ drop (5 + n) d
@@ -90,14 +76,6 @@ module _ {d o : List ℕ} {n : ℕ} (p : Pasted d 5 (replicate n 0) n o) (room :
       ∙ append_assoc (replicate j 0) (replicate 64 0 ++ replicate more 0) behind ∙ ap (λ (l : List ℕ). replicate j 0 ++ l) (append_assoc (replicate 64 0) (replicate more 0) behind) in
       ap (take 64) (sym (drop-drop j 5 o) ∙ ap (drop j) from ∙ drop_at (replicate j 0) (replicate 64 0 ++ (replicate more 0 ++ behind)) j (length-replicate {A = ℕ} j 0))
       ∙ take_at (replicate 64 0) (replicate more 0 ++ behind) 64 (length-replicate {A = ℕ} 64 0)
-
--- ---- five stores in a row
-pub counts_pasted : (a b c d e : ℕ) (before : List ℕ) → 5 ≤ length before
-    → Pasted before 0 (a ∷ b ∷ c ∷ d ∷ e ∷ []) 5 (sets before 0 (a ∷ b ∷ c ∷ d ∷ e ∷ []))
-counts_pasted a b c d e before room = record {
-  after_is = sets-eq (a ∷ b ∷ c ∷ d ∷ e ∷ []) before 0 room;
-  same_len = length-sets before 0 (a ∷ b ∷ c ∷ d ∷ e ∷ []);
-}
 
 -- ---- THE WHOLE RUN: cleared, four lists over it, and the five counts
 module _ {d o₁ o₂ o₃ o₄ o₅ o₆ : List ℕ} {R C U Y : List ℕ} (a b c e f : ℕ) (room : 261 ≤ length d) (lR : length R ≡ 64) (lC : length C ≡ 64) (lU : length U ≡ 64) (lY : length Y ≡ 64)

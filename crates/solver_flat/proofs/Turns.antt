@@ -1,41 +1,28 @@
 -- What one turn of each listing loop does to the run, and the whole answer in it. Assumes nothing.
 use mathlib.Core.Path.{◌≡◌, refl, sym, ap, ◌∙◌, subst}
-use mathlib.Core.Bool.{Bool, true, false, beq}
+use mathlib.Core.Bool.{Bool, true, false}
 use mathlib.Core.List.{List, [], ◌∷◌, ◌++◌}
 use Prim.Native.Nat.{ℕ, ◌+◌, ◌≤◌, ◌<◌}
 use native.Mathlib.Omega.{arith}
 use lib.ListN.{length, length-append, length-map, length-replicate, length-set, get_or, replicate, set, take, drop}
 use lib.Ieee.{Float}
 use lib.Seq.{length-take-le, take-set-lt, drop-set-lt, set-append_left}
-use Rattle.square.specs.Index.{on}
-use Rattle.square.proofs.Picking.{picked_none, picked_few, picked_yes, picked_no}
+use Rattle.square.specs.Index.{Picked}
+use borrow.Rule.Slice.PartMut.{put_mid}
 use Rattle.optimize.specs.declared.Assignment.{Assignment}
 use Rattle.optimize.specs.declared.AssignmentResult.{AssignmentResult}
 use Rattle.optimize.specs.Answer.{Solved, keeps, pair_of, no_pair, rows_alone}
 use Rattle.optimize.proofs.Listing as listing
+use Rattle.std.proofs.lemmas.List.{map-set}
 use Rattle.solver_flat.specs.Flat.{rows_of, cols_of, flat_after}
 use Rattle.solver_flat.specs.Inner.{Clear, Pasted, PickedAt, PairsAt, Found}
-use Rattle.solver_flat.proofs.Pasting.{map-set, pasted_set, pasted_clear, run_is, clear_at, still_clear}
+use Rattle.solver_flat.proofs.Pasting.{pasted_part, pasted_set, pasted_clear, run_is, clear_at, still_clear}
 
 -- ---- the numbers that have no mark
-module _ {before : List ℕ} {at : ℕ} {marks : List Bool} where
-  pub picked_at_none : Clear at before → PickedAt before at marks 0 0 before
-  picked_at_none c = record { places = replicate 64 0; full = length-replicate {A = ℕ} 64 0; picked = picked_none false marks; pasted = pasted_clear before at (replicate 64 0) refl c }
-
-  module _ {k used : ℕ} {out : List ℕ} (v : PickedAt before at marks k used out) where
-    pub few_picked : used ≤ k
-    few_picked = picked_few false marks k v.places used v.picked
-
-    pub picked_at_yes : at + 64 ≤ length before → k < 64 → beq (on marks k) false ≡ true → PickedAt before at marks (k + 1) (used + 1) (set out (at + used) k)
-    picked_at_yes room less e = record {
-      places = set v.places used k;
-      full = length-set v.places used k ∙ v.full;
-      picked = picked_yes false marks k v.places used v.picked less e;
-      pasted = pasted_set v.pasted room v.full used k (omega (arith, few_picked));
-    }
-
-    pub picked_at_no : beq (on marks k) false ≡ false → PickedAt before at marks (k + 1) used out
-    picked_at_no e = record { places = v.places; full = v.full; picked = picked_no false marks k v.places used v.picked e; pasted = v.pasted }
+pub picked_at : (before : List ℕ) (at n : ℕ) (marks : List Bool) (used : ℕ) (places : List ℕ) (k : ℕ) → at + 64 ≤ length before → k ≡ 64 → length places ≡ 64
+    → Picked false marks n places used → PickedAt before at marks n used (put_mid at k before places)
+picked_at before at n marks used places k room e full p =
+    record { places = places; full = full; picked = p; pasted = pasted_part before at k places places 64 room refl (sym e) (sym full) }
 
 -- ---- a store before the places of a list that was written
 module _ {d : List ℕ} {at : ℕ} {s : List ℕ} {n : ℕ} {o : List ℕ} (h : Pasted d at s n o) (p v : ℕ) (low : p < at) (fits : at ≤ length d) where
@@ -97,11 +84,6 @@ module _ {m : List Float} {w : ℕ} {limit : Float} {rows : List ℕ} {before : 
     }
 
 -- ---- the same, under other names
-pub picked_at_as : {before : List ℕ} {at : ℕ} {marks : List Bool} {k k' used used' : ℕ} {out out' : List ℕ} → k ≡ k' → used' ≡ used → out' ≡ out
-    → PickedAt before at marks k used out → PickedAt before at marks k' used' out'
-picked_at_as {before} {at} {marks} {k} {k'} {used} {used'} {out} {out'} p q r v =
-    subst (λ (x : ℕ). PickedAt before at marks x used' out') p (subst (λ (x : ℕ). PickedAt before at marks k x out') (sym q) (subst (λ (x : List ℕ). PickedAt before at marks k used x) (sym r) v))
-
 pub pairs_at_as : {m : List Float} {w : ℕ} {limit : Float} {rows : List ℕ} {k k' used used' : ℕ} {R R' C C' : List Bool} {before out out' : List ℕ}
     → k ≡ k' → used' ≡ used → R' ≡ R → C' ≡ C → out' ≡ out → PairsAt m w limit rows k used R C before out → PairsAt m w limit rows k' used' R' C' before out'
 pairs_at_as {m} {w} {limit} {rows} {k} {k'} {used} {used'} {R} {R'} {C} {C'} {before} {out} {out'} p q r s t v =
