@@ -6,24 +6,21 @@ use mathlib.Core.List.{List, [], ◌∷◌, ◌++◌}
 use mathlib.Core.Logic.{⊎_elim}
 use native.Mathlib.Omega.{arith}
 use lib.ListN.{get_or-append, length, get_or, set, take, drop}
-use lib.Seq.{get_or-take, length-take-le, get_or-set_same, get_or-set_other}
+use lib.Seq.{drop-cons, get_or-take, length-take-le, get_or-set_same, get_or-set_other}
 use lib.Ieee.{Float, nan, lt, inf, binary64, add, sub}
 use Rattle.floats.specs.Float.{is_zero}
-use borrow.Author.Tests.{not-true, not-false, ltb-false, lt-ltb, le-ltb}
+use borrow.Author.Tests.{not-true, not-false}
 use Rattle.square.specs.Index.{like, loop, on, Picked}
 use Rattle.square.specs.Square.{at, in_row, least, line}
 use Rattle.square.proofs.Index.{eq-or-not, last_or_before, loop_more, loop_same}
 use Rattle.square.proofs.Picking.{picked_loop}
 use Rattle.square.proofs.Square.{line-length, least_new, least_old}
 use Rattle.square.proofs.Truth.{dec}
-use Rattle.std.proofs.Common.{None, Some, nat_lt}
-use Rattle.std.proofs.lemmas.List.Quantifiers.{position-Some}
-use Rattle.std.proofs.lemmas.List.{get_or-append_right, get_or-drop, set-append_left, set-append_right, take_rest}
+use Rattle.std.proofs.lemmas.List.{drop_all, get_or-append_right, get_or-drop, set-append_left, set-append_right}
 use borrow.Rule.Slice.PartMut.{put_mid, put_same}
-use Rattle.std.proofs.lemmas.List.Elements.{All-drop, All-from_get_or}
+use Rattle.std.proofs.lemmas.List.Elements.{All-from_get_or}
 use lib.ListN.{length-drop}
-use Rattle.std.specs.List.{All, position, position_or_len}
-use Rattle.std.proofs.lemmas.List.Sums.{fails_before_first, position_or_len_is}
+use Rattle.std.specs.List.{All}
 use native.Mathlib.Numerals.{add-one}
 use Rattle.corrections.specs.Inner.{Columns, Listed, least_in}
 use Rattle.corrections.specs.Correction.{correction, least_step, least_row, least_rows, shifted_of}
@@ -33,67 +30,21 @@ abbrev pub listed : ℕ → List ℕ → ℕ → ℕ
 listed i columns t = i * 64 + get_or columns t 0
 
 -- ---- the minimum
-abbrev Smaller : List Float → Float → ℕ → Bool
-Smaller row m j = lt (get_or row j nan) m
+-- one column more
+module _ (row : List Float) (js : List ℕ) (m : Float) (t : ℕ) where
+  turn : t < length js → least_in row (drop t js) m ≡ least_in row (drop (t + 1) js) (least m (get_or row (get_or js t 0) nan))
+  unfolding least_in
+  turn l = rw (drop-cons js t 0, add-one t)
 
--- where no listed entry is smaller
-passed : (row : List Float) (js : List ℕ) (m : Float) → ((t : ℕ) → t < length js → Smaller row m (get_or js t 0) ≡ false) → least_in row js m ≡ m
-unfolding least_in
-passed row [] m h = refl
-passed row (j ∷ js) m h = ap (least_in row js) (sym (least_old m (get_or row j nan) m refl (h 0 (omega arith)))) ∙ passed row js m (λ t l. h (suc t) (omega arith))
+  pub passed : t < length js → lt (get_or row (get_or js t 0) nan) m ≡ false → least_in row (drop t js) m ≡ least_in row (drop (t + 1) js) m
+  passed l e = turn l ∙ ap (least_in row (drop (t + 1) js)) (sym (least_old m (get_or row (get_or js t 0) nan) m refl e))
 
--- where the one at place t is the first that is
-reached : (row : List Float) (js : List ℕ) (m : Float) (t : ℕ) → t < length js → ((s : ℕ) → s < t → Smaller row m (get_or js s 0) ≡ false) → Smaller row m (get_or js t 0) ≡ true
-    → least_in row js m ≡ least_in row (drop (suc t) js) (get_or row (get_or js t 0) nan)
-unfolding least_in
-reached row [] m t l h e = absurd (omega arith)
-reached row (j ∷ js) m zero l h e = ap (least_in row js) (sym (least_new m (get_or row j nan) (get_or row j nan) refl e))
-reached row (j ∷ js) m (suc t) l h e = ap (least_in row js) (sym (least_old m (get_or row j nan) m refl (h 0 (omega arith)))) ∙ reached row js m t (omega arith) (λ s ls. h (suc s) (omega arith)) e
+  pub reached : t < length js → lt (get_or row (get_or js t 0) nan) m ≡ true → least_in row (drop t js) m ≡ least_in row (drop (t + 1) js) (get_or row (get_or js t 0) nan)
+  reached l e = turn l ∙ ap (least_in row (drop (t + 1) js)) (sym (least_new m (get_or row (get_or js t 0) nan) (get_or row (get_or js t 0) nan) refl e))
 
--- what a loop over the list finds
-module _ (row : List Float) (m : Float) (js : List ℕ) (t : ℕ) where
-  pub first_at : t < length js → ((k : ℕ) → k < t → Smaller row m (get_or js k 0) ≡ false) → Smaller row m (get_or js t 0) ≡ true → Some t ≡ position (Smaller row m) js
-  first_at l h e =
-      let is : position_or_len (Smaller row m) js ≡ t = position_or_len_is (Smaller row m) js t 0 (omega arith) h (λ _. e) in
-      sym (rw (is, lt-ltb t (length js) l))
-
-  pub none_at : length js ≤ t → ((k : ℕ) → k < t → Smaller row m (get_or js k 0) ≡ false) → None ≡ position (Smaller row m) js
-  none_at l h =
-      let is : position_or_len (Smaller row m) js ≡ length js = position_or_len_is (Smaller row m) js (length js) 0 (omega arith) (λ k lk. h k (omega arith)) (λ lt. absurd (omega arith)) in
-      sym (rw (is, le-ltb (length js) (length js) (omega arith)))
-
-none_passes : (p : ℕ → Bool) (js : List ℕ) → None ≡ position p js → length js ≤ position_or_len p js
-none_passes p js e = go (nat_lt (position_or_len p js) (length js)) refl e
-  where
-    go : (b : Bool) → nat_lt (position_or_len p js) (length js) ≡ b → None ≡ cond b (Some (position_or_len p js)) None → length js ≤ position_or_len p js
-    go true q e = cc
-    go false q e = ltb-false (position_or_len p js) (length js) q
-
-least_none : (row : List Float) (js : List ℕ) (m : Float) → None ≡ position (Smaller row m) js → m ≡ least_in row js m
-least_none row js m e = sym (passed row js m (λ t l. fails_before_first (Smaller row m) js t 0 (omega (arith, none_passes (Smaller row m) js e))))
-
-least_some : (row : List Float) (js : List ℕ) (m : Float) (t : ℕ) → Some t ≡ position (Smaller row m) js
-    → least_in row js m ≡ least_in row (drop (t + 1) js) (get_or row (get_or js t 0) nan)
-least_some row js m t e =
-    let v = position-Some (Smaller row m) js t 0 (sym e) in
-    reached row js m t v.0 v.2 v.1 ∙ ap (λ (k : ℕ). least_in row (drop k js) (get_or row (get_or js t 0) nan)) (sym (add-one t))
-
--- from m over the columns that are left: as from the beginning over all of them
-pub record Left (row : List Float) (columns rest : List ℕ) (least m : Float) : Type 0 where
-  pub inside : All (λ j. j < length row) rest
-  pub few : length rest ≤ 64
-  pub as_all : least_in row rest m ≡ least_in row columns least
-
-pub left_more : (row : List Float) (columns rest : List ℕ) (least m : Float) (t : ℕ) → Left row columns rest least m → Some t ≡ position (Smaller row m) rest
-    → Left row columns (take (length rest - (t + 1)) (drop (t + 1) rest)) least (get_or row (get_or rest t 0) nan)
-left_more row columns rest least m t v e = rw (take_rest rest (t + 1)) (record {
-  inside = All-drop (λ j. j < length row) (t + 1) rest v.inside;
-  few = omega (arith, v.few, length-drop (t + 1) rest);
-  as_all = sym (least_some row rest m t e) ∙ v.as_all;
-})
-
-pub left_none : (row : List Float) (columns rest : List ℕ) (least m : Float) → Left row columns rest least m → None ≡ position (Smaller row m) rest → m ≡ least_in row columns least
-left_none row columns rest least m v e = least_none row rest m e ∙ v.as_all
+  pub all_passed : length js ≤ t → least_in row (drop t js) m ≡ m
+  unfolding least_in
+  all_passed l = rw (drop_all t js l)
 
 -- ---- a row of the square, and the listed columns in an array
 abbrev pub row_of : ℕ → List Float → List Float

@@ -1,9 +1,10 @@
--- `corrections::least_row` meets its contract: the minimum over the columns that are left, from the minimum so far, is the minimum over all. Assumes nothing.
-use Rattle.corrections.proofs.LoopCode.{left_more, left_none}
+-- `corrections::least_row` meets its contract: the minimum over the columns from `from` on, with the minimum so far, is that over all. Assumes nothing.
+use mathlib.Core.Path.{sym, ◌∙◌}
+use native.Mathlib.Omega.{arith}
 use Rattle.corrections.proofs.least_row.Goals as goal
 
 pub loop-t-preserved : goal.loop-t-preserved
-loop-t-preserved c = left_more _ _ _ _ _ _ c.loop-t.invariant c.in-Some.ensures.first
+loop-t-preserved c = (omega (arith, c.in-Some.ensures.1), sym c.in-Some.ensures.2 ∙ c.loop-t.invariant.1)
 
 pub returns : goal.returns
-returns c = left_none _ _ _ _ _ c.loop-t.invariant c.in_default.ensures.first
+returns c = sym c.in_default.ensures ∙ c.loop-t.invariant.1
