@@ -31,75 +31,70 @@ fn free_rows(rows: &[usize; 64], n: usize) -> Option<[bool; 64]>
     Some(free)
 }
 
-/// The row routine of step F: marks a row, and every column that a zero leads to. True where a free column is met: it stops there.
-#[cycle(reach_col_reach_row)]
-fn reach_row(
-    c: &[f64],
-    n: usize,
-    cols: &[usize; 64],
-    row: usize,
-    rs: &mut [bool; 64],
-    cs: &mut [bool; 64],
-) -> bool
-    requires { (n ≤ 64) × (row < n) × (length rs.old ≡ 64) × (length cs.old ≡ 64) × (n * 64 ≤ length c.now) }
-    ensures { RowDone result c.now n cols.now row rs.old cs.old rs.new cs.new }
-{
-    rs[row] = true;
-    for (col, x) in c[row * 64..row * 64 + n].iter().enumerate() {
-        if floats::is_zero(*x) && !cs[col] && reach_col(c, n, cols, col, rs, cs) {
+/// The rows and columns reached, as marks.
+#[derive(Drop)]
+struct Reached {
+    rows: [bool; 64],
+    cols: [bool; 64],
+}
+
+impl Reached {
+    /// The row routine of step F: marks a row, and every column that a zero leads to. True where a free column is met: it stops there.
+    #[cycle(reach_col_reach_row)]
+    fn reach_row(&mut self, c: &[f64], n: usize, cols: &[usize; 64], row: usize) -> bool
+        requires { (n ≤ 64) × (row < n) × (length self.old.rows ≡ 64) × (length self.old.cols ≡ 64) × (n * 64 ≤ length c.now) }
+        ensures { RowDone result c.now n cols.now row self.old.rows self.old.cols self.new.rows self.new.cols }
+    {
+        self.rows[row] = true;
+        for (col, x) in c[row * 64..row * 64 + n].iter().enumerate() {
+            if floats::is_zero(*x) && !self.cols[col] && self.reach_col(c, n, cols, col) {
+                return true;
+            }
+        }
+        false
+    }
+
+    /// The column routine: marks a column that is not marked yet, and goes on to its partner row.
+    #[cycle(reach_col_reach_row)]
+    fn reach_col(&mut self, c: &[f64], n: usize, cols: &[usize; 64], col: usize) -> bool
+        requires { (n ≤ 64) × (col < n) × (length self.old.rows ≡ 64) × (length self.old.cols ≡ 64) × (on self.old.cols col ≡ false) × (n * 64 ≤ length c.now) }
+        ensures { ColDone result c.now n cols.now col self.old.rows self.old.cols self.new.rows self.new.cols }
+    {
+        self.cols[col] = true;
+        let row = cols[col];
+        if n <= row {
             return true;
         }
-    }
-    false
-}
-
-/// The column routine: marks a column that is not marked yet, and goes on to its partner row.
-#[cycle(reach_col_reach_row)]
-fn reach_col(
-    c: &[f64],
-    n: usize,
-    cols: &[usize; 64],
-    col: usize,
-    rs: &mut [bool; 64],
-    cs: &mut [bool; 64],
-) -> bool
-    requires { (n ≤ 64) × (col < n) × (length rs.old ≡ 64) × (length cs.old ≡ 64) × (on cs.old col ≡ false) × (n * 64 ≤ length c.now) }
-    ensures { ColDone result c.now n cols.now col rs.old cs.old rs.new cs.new }
-{
-    cs[col] = true;
-    let row = cols[col];
-    if n <= row {
-        return true;
-    }
-    if rs[row] {
-        return false;
-    }
-    reach_row(c, n, cols, row, rs, cs)
-}
-
-/// Goes through the rows marked in `look`, and gives the one at which a free column is met.
-fn spread(
-    c: &[f64],
-    n: usize,
-    cols: &[usize; 64],
-    look: &[bool; 64],
-    rs: &mut [bool; 64],
-    cs: &mut [bool; 64],
-) -> Option<usize>
-    requires { (n ≤ 64) × (length rs.old ≡ 64) × (length cs.old ≡ 64) × (n * 64 ≤ length c.now) }
-    ensures { MatchOption result
-        (Looked n c.now n cols.now look.now rs.old cs.old rs.new cs.new)
-        (λ row. (row < n) × Met row c.now n cols.now look.now rs.old cs.old rs.new cs.new) }
-{
-    for (row, looked) in look[..n].iter().enumerate() {
-        if *looked && reach_row(c, n, cols, row, rs, cs) {
-            return Some(row);
+        if self.rows[row] {
+            return false;
         }
+        self.reach_row(c, n, cols, row)
     }
-    None
+
+    /// Goes through the rows marked in `look`, and gives the one at which a free column is met.
+    fn spread(
+        &mut self,
+        c: &[f64],
+        n: usize,
+        cols: &[usize; 64],
+        look: &[bool; 64],
+    ) -> Option<usize>
+        requires { (n ≤ 64) × (length self.old.rows ≡ 64) × (length self.old.cols ≡ 64) × (n * 64 ≤ length c.now) }
+        ensures { MatchOption result
+            (Looked n c.now n cols.now look.now self.old.rows self.old.cols self.new.rows self.new.cols)
+            (λ row. (row < n) × Met row c.now n cols.now look.now self.old.rows self.old.cols self.new.rows self.new.cols) }
+    {
+        for (row, looked) in look[..n].iter().enumerate() {
+            if *looked && self.reach_row(c, n, cols, row) {
+                return Some(row);
+            }
+        }
+        None
+    }
 }
 
 /// How many corrections were made, and whether the minimum was of no use in the end.
+// Kept: both ends have a count, so an enum or an Option of it is no plainer.
 #[derive(Clone, Copy)]
 pub struct Corrections {
     pub times: usize,
@@ -107,28 +102,31 @@ pub struct Corrections {
 }
 
 /// Steps F and G, from step F's sets on: a correction keeps what was reached, so the sets only grow, until a free column is reached.
-fn correct(
-    c: &mut [f64],
-    n: usize,
-    cols: &[usize; 64],
-    rs: &mut [bool; 64],
-    cs: &mut [bool; 64],
-) -> Corrections
-    requires { (rows : List ℕ) × Marked n c.old rows cols.now rs.old cs.old }
-    ensures { (rows : List ℕ) → Marked n c.old rows cols.now rs.old cs.old → Corrected result.stuck n result.times c.old rows cols.now c.new }
+fn correct(c: &mut [f64], n: usize, cols: &[usize; 64], reached: &mut Reached) -> Corrections
+    requires { (rows : List ℕ) × Marked n c.old rows cols.now reached.old.rows reached.old.cols }
+    ensures { (rows : List ℕ) → Marked n c.old rows cols.now reached.old.rows reached.old.cols → Corrected result.stuck n result.times c.old rows cols.now c.new }
 {
     let mut times = 0usize;
     loop {
         let mut outside = [0usize; 64];
-        let aways = square::pick(cs, n, false, &mut outside);
-        let m = corrections::least_over(c, n, rs, &outside, aways);
+        let aways = square::pick(&reached.cols, n, false, &mut outside);
+        let m = corrections::least_over(c, n, &reached.rows, &outside, aways);
         if !corrections::useful(m) {
             return Corrections { times, stuck: true };
         }
         let mut hot = [false; 64];
-        corrections::shift(c, n, rs, cs, &outside, aways, m, &mut hot);
+        corrections::shift(
+            c,
+            n,
+            &reached.rows,
+            &reached.cols,
+            &outside,
+            aways,
+            m,
+            &mut hot,
+        );
         times += 1;
-        if spread(c, n, cols, &hot, rs, cs).is_some() {
+        if reached.spread(c, n, cols, &hot).is_some() {
             return Corrections {
                 times,
                 stuck: false,
@@ -152,13 +150,15 @@ pub fn search(c: &mut [f64], n: usize, rows: &mut [usize; 64], cols: &mut [usize
     let mut corrections = 0usize;
     let mut paths = 0usize;
     while let Some(free) = free_rows(rows, n) {
-        let mut rs = [false; 64];
-        let mut cs = [false; 64];
-        if let Some(start) = spread(c, n, cols, &free, &mut rs, &mut cs) {
+        let mut reached = Reached {
+            rows: [false; 64],
+            cols: [false; 64],
+        };
+        if let Some(start) = reached.spread(c, n, cols, &free) {
             paths::augment(c, n, rows, cols, start);
             paths += 1;
         } else {
-            let made = correct(c, n, cols, &mut rs, &mut cs);
+            let made = correct(c, n, cols, &mut reached);
             corrections += made.times;
             if made.stuck {
                 break;

@@ -7,7 +7,7 @@ use Rattle.search.proofs.search.Goals as goal
 use Rattle.search.proofs.search.Goals.{In_default-spread}
 
 -- where no free row has a path, step F is come to
-come : (c : In_default-spread) → Marked c.args.n c.loop-free.c c.loop-free.rows c.loop-free.cols c.spread.new.rs c.spread.new.cs
+come : (c : In_default-spread) → Marked c.args.n c.loop-free.c c.loop-free.rows c.loop-free.cols c.spread.new.self.rows c.spread.new.self.cols
 come c =
     let v = c.loop-free.invariant in
     record { ok = v.1.ok; blocked = seek_none _ _ _ _ v.1.ok.tables _ c.in-Some.ensures.1 _ _ c.in_default-spread.ensures }
