@@ -5,3 +5,4 @@ pub mod FlipCode
 pub mod PathCode
 pub mod PathLaws
 pub mod Via
+pub mod Rows

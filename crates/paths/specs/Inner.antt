@@ -1,5 +1,5 @@
 -- What the inner functions ask of each other: no part of document 01, and no caller of the search meets it. Definitions only.
-use Rattle.std.specs.Prelude.{ℕ, suc, ◌<◌, ◌≤◌, ◌≡◌, Bool, true, false, List, ◌⊎◌, length, get_or, take, ltb, Float}
+use Rattle.std.specs.Prelude.{ℕ, suc, ◌<◌, ◌≤◌, ◌≡◌, Bool, true, false, List, ◌⊎◌, length, get_or, take, ltb, Float, Option, None, Some}
 use Rattle.square.specs.Index.{count}
 use Rattle.paths.specs.State.{Tables, paired}
 use Rattle.paths.specs.Path.{Bfs, bfs_of, NoPathBelow}
@@ -50,6 +50,15 @@ pub record Holds (b : Bfs) (from queue : List ℕ) (hit tail : ℕ) : Type 0 whe
   pub tail_is : tail ≡ length b.queue
   pub hit_is : hit ≡ b.hit
   pub len : length queue ≡ 64
+
+-- the same, where tail is some place of the queue's array
+abbrev pub Held : Bfs → List ℕ → List ℕ → ℕ → Type 0
+Held b from queue hit = (tail : ℕ) × Holds b from queue hit tail
+
+-- the free column met, as the definitions have it: 64 is none
+abbrev pub hit_of : Option ℕ → ℕ
+hit_of None = 64
+hit_of (Some col) = col
 
 -- a row that step E may end at: the first free one that has a path
 pub record Leads (n : ℕ) (c : List Float) (rows cols : List ℕ) (start : ℕ) : Type 0 where

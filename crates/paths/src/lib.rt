@@ -1,20 +1,14 @@
-// Step E of the search: a path from a free row to a free column, and its flip.
-// The square lies at stride 64; in the tables n or more is no partner; 64 is no place and no column.
+//! Step E of the search: a path from a free row to a free column, and its flip.
+//! The square lies at stride 64; in the tables n or more is no partner; in `from`, 64 is no place.
 #![tactic(auto)]
 
 ghost use Rattle.std.specs.Prelude.{◌≡◌, ◌*◌, ◌≤◌, length, get_or, replicate};
 ghost use Rattle.paths.specs.State.{state};
 ghost use Rattle.paths.specs.Path.{bfs_of, Flips, Path};
-ghost use Rattle.paths.specs.Inner.{Trail, Begins, Holds, Leads};
+ghost use Rattle.paths.specs.Inner.{Trail, Begins, Held, Leads, hit_of};
 
-// The free column met, or 64, and how many rows were queued.
-#[derive(Clone, Copy)]
-pub struct Found {
-    pub hit: usize,
-    pub tail: usize,
-}
-
-// Step E from one free row: breadth first, the first free column met ends it.
+/// Breadth first from one free row: the first free column met ends it, and is given. `from` gets for each column met the place in the queue of
+/// the row that it was met from, `queue` the rows in order.
 fn bfs(
     c: &[f64],
     n: usize,
@@ -22,39 +16,35 @@ fn bfs(
     start: usize,
     from: &mut [usize; 64],
     queue: &mut [usize; 64],
-) -> Found
+) -> Option<usize>
     requires { Begins n cols.now start × (from.old ≡ replicate 64 64) × (length queue.old ≡ 64) × (n * 64 ≤ length c.now) }
-    ensures { Holds (bfs_of c.now n cols.now start) from.new queue.new result.hit result.tail }
+    ensures { Held (bfs_of c.now n cols.now start) from.new queue.new (hit_of result) }
 {
     queue[0] = start;
     let mut head = 0usize;
     let mut tail = 1usize;
-    let mut hit = 64usize;
+    let mut hit = None;
+    // Kept: a `while`, since the queue grows as it goes; it is the labelled exit's form, which may not change.
     'bfs: while head < tail {
         let row = queue[head];
-        let mut col = 0usize;
-        while col < n {
-            if from[col] == 64 {
-                if floats::is_zero(c[row * 64 + col]) {
-                    from[col] = head;
-                    let next = cols[col];
-                    if next < n {
-                        queue[tail] = next;
-                        tail += 1;
-                    } else {
-                        hit = col;
-                        break 'bfs;
-                    }
+        for (col, x) in c[row * 64..row * 64 + n].iter().enumerate() {
+            if from[col] == 64 && floats::is_zero(*x) {
+                from[col] = head;
+                let next = cols[col];
+                if n <= next {
+                    hit = Some(col);
+                    break 'bfs;
                 }
+                queue[tail] = next;
+                tail += 1;
             }
-            col += 1;
         }
         head += 1;
     }
-    Found { hit, tail }
+    hit
 }
 
-// Flips the path that ends at the free column `hit`.
+/// Flips the path that ends at the free column `hit`.
 fn flip(
     from: &[usize; 64],
     queue: &[usize; 64],
@@ -67,6 +57,7 @@ fn flip(
 {
     let mut col = hit;
     let mut h = from[col];
+    // Kept: a `while`, since it goes back along the path, and not over an index.
     while 0 < h {
         let row = queue[h];
         let prev = rows[row];
@@ -80,14 +71,14 @@ fn flip(
     cols[col] = row;
 }
 
-// Step E from the first free row that has a path: that path flipped.
+/// Step E from the first free row that has a path: that path flipped.
 pub fn augment(c: &[f64], n: usize, rows: &mut [usize; 64], cols: &mut [usize; 64], start: usize)
     requires { Leads n c.now rows.old cols.old start × (n * 64 ≤ length c.now) }
     ensures { Path n (state c.now rows.old cols.old) (state c.now rows.new cols.new) }
 {
     let mut from = [64usize; 64];
     let mut queue = [0usize; 64];
-    let found = bfs(c, n, cols, start, &mut from, &mut queue);
-    let hit = found.hit;
-    flip(&from, &queue, hit, rows, cols);
+    if let Some(hit) = bfs(c, n, cols, start, &mut from, &mut queue) {
+        flip(&from, &queue, hit, rows, cols);
+    }
 }

@@ -1,11 +1,8 @@
 -- `corrections::next_below` meets its contract: no entry from `from` to `t` is smaller than `m`. Assumes nothing.
-use mathlib.Core.Path.{refl}
+use mathlib.Core.Path.{◌∙◌}
 use native.Mathlib.Omega.{arith}
-use Rattle.square.proofs.Square.{least_old}
-use Rattle.corrections.proofs.LoopCode.{listed_more}
+use Rattle.corrections.proofs.LoopCode.{passed}
 use Rattle.corrections.proofs.next_below.Goals as goal
 
 pub loop-t-preserved : goal.loop-t-preserved
-loop-t-preserved c =
-    let v = c.loop-t.invariant in
-    (omega arith, omega arith, λ m₀ e. listed_more _ _ _ c.loop-t.t _ _ _ (v.2 m₀ e) (least_old _ _ _ refl c.if-c-row.false))
+loop-t-preserved c = (omega arith, omega arith, c.loop-t.invariant.2 ∙ passed c.args.line.now c.args.columns.now c.args.m c.loop-t.t (omega arith) c.if-line-columns.false)

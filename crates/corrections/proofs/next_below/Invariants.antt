@@ -1,12 +1,10 @@
 -- `corrections::next_below` meets its contract: no entry from `from` to `t` is smaller than `m`. Assumes nothing.
-use Prim.Native.Nat.{◌≤◌, ◌-◌}
-use mathlib.Core.Path.{◌≡◌}
-use lib.Ieee.{Float}
-use Rattle.corrections.specs.Inner.{least_listed}
+use Rattle.std.proofs.Common.{◌≡◌, ◌≤◌, ◌-◌, drop, length}
+use Rattle.corrections.specs.Inner.{least_in}
 use Rattle.corrections.proofs.next_below.Given as goal
 
 abbrev pub invariant-loop-t : goal.invariant-loop-t
-invariant-loop-t l = (l.t ≤ l.used) × (l.from ≤ l.t) × ((m₀ : Float) → l.m ≡ least_listed l.c l.row l.columns l.from m₀ → l.m ≡ least_listed l.c l.row l.columns l.t m₀)
+invariant-loop-t l = (l.from ≤ l.t) × (l.t ≤ length l.columns) × (least_in l.line (drop l.from l.columns) l.m ≡ least_in l.line (drop l.t l.columns) l.m)
 
 abbrev pub decreases-loop-t : goal.decreases-loop-t
-decreases-loop-t l = l.used - l.t
+decreases-loop-t l = length l.columns - l.t

@@ -6,7 +6,7 @@ use Rattle.search.proofs.SearchCode as code
 use Rattle.search.proofs.correct.Given as goal
 
 abbrev pub invariant-loop-outside : goal.invariant-loop-outside
-invariant-loop-outside l = (rows : List ℕ) → Marked l.n l.initial.c rows l.cols l.initial.rs l.initial.cs → code.CorrInv l.n l.initial.c rows l.cols l.c l.rs l.cs l.times
+invariant-loop-outside l = (rows : List ℕ) → Marked l.n l.initial.c rows l.cols l.initial.reached.rows l.initial.reached.cols → code.CorrInv l.n l.initial.c rows l.cols l.c l.reached.rows l.reached.cols l.times
 
 abbrev pub decreases-loop-outside : goal.decreases-loop-outside
 decreases-loop-outside l = 4225 - l.times

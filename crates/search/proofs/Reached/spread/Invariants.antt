@@ -1,0 +1,6 @@
+-- `search::Reached::spread` meets its contract: the row routine was called for the rows of `look` below `row`. Assumes nothing.
+use Rattle.search.specs.Inner.{Looked}
+use Rattle.search.proofs.Reached.spread.Given as goal
+
+abbrev pub invariant-loop-row : goal.invariant-loop-row
+invariant-loop-row l = Looked l.row l.c l.n l.cols l.look l.initial.self.rows l.initial.self.cols l.self.rows l.self.cols
