@@ -1,39 +1,21 @@
 -- Bit patterns of NaNs. Assumes nothing.
 use mathlib.Core.Path.{◌≡◌, refl, sym, ◌∙◌}
-use mathlib.Core.Bool.{true, false, not, false≢true}
+use mathlib.Core.Bool.{true, false, false≢true}
 use Prim.Native.Nat.{ℕ, ◌%◌, ◌<◌, ◌≤◌}
-use borrow.Author.Tests.{lt-ltb, le-ltb, eq-eqb}
-use lib.Dec.{T, eqb}
-use lib.Ieee.{Float, nan, inf, fin, binary64, ne, div, is_nan, of_bits, to_bits, nan_bits}
+use borrow.Author.Tests.{lt-ltb, le-ltb}
+use lib.Ieee.{Float, nan, inf, fin, binary64, is_nan, of_bits, to_bits, nan_bits}
 use lib.Ieee.Bits.{nan_bits_is, nan_bits_above}
 
-only_nan : (x : Float) → is_nan x ≡ true → x ≡ nan
+pub only_nan : (x : Float) → is_nan x ≡ true → x ≡ nan
 unfolding is_nan
 only_nan nan e = refl
 only_nan (inf s) e = absurd (false≢true e)
 only_nan (fin s m k) e = absurd (false≢true e)
 
-eqb_self : (n : ℕ) → eqb n n ≡ true
-eqb_self n = eq-eqb n n refl
-
--- only the NaN differs from itself
-ne_self : (x : Float) → ne x x ≡ is_nan x
-unfolding ne is_nan
-ne_self nan = refl
-ne_self (inf true) = refl
-ne_self (inf false) = refl
-ne_self (fin true m e) = rw eqb_self
-ne_self (fin false m e) = rw eqb_self
-
-pub unlike_itself : (x : Float) → ne x x ≡ true → x ≡ nan
-unlike_itself x e = only_nan x (sym (ne_self x) ∙ e)
-
-pub like_itself : (x : Float) → ne x x ≡ false → T (not (is_nan x))
-like_itself x e = rw (← ne_self, e) tt
-
-pub zero_by_zero : div binary64 (of_bits binary64 0) (of_bits binary64 0) ≡ nan
-unfolding of_bits div
-zero_by_zero = refl
+-- the library's constant
+pub nan_constant : of_bits binary64 0x7ff8_0000_0000_0000 ≡ nan
+unfolding of_bits
+nan_constant = refl
 
 pub nan_pattern : (n : ℕ) → 0x7ff0_0000_0000_0000 < n % 0x8000_0000_0000_0000 → of_bits binary64 n ≡ nan
 nan_pattern n h = only_nan _ (sym (nan_bits_is binary64 n) ∙ nan_bits_above binary64 n ∙ lt-ltb _ _ h)

@@ -1,9 +1,6 @@
 use Rattle.std.proofs.Common.{sym}
-use Rattle.float_bits.proofs.Nans.{unlike_itself, like_itself, nan_bits_lem}
+use Rattle.float_bits.proofs.Nans.{only_nan, nan_bits_lem}
 use Rattle.float_bits.proofs.bits_of.Goals as goal
 
-pub returns-then-x : goal.returns-then-x
-returns-then-x c = rw (unlike_itself c.args.x c.if-x.true) (sym nan_bits_lem)
-
-pub float_to_bits-result : goal.float_to_bits-result
-float_to_bits-result c = like_itself c.args.x c.if-x.false
+pub returns-then-is_nan : goal.returns-then-is_nan
+returns-then-is_nan c = rw (only_nan c.args.x (sym c.if-is_nan.ensures.value)) (sym nan_bits_lem)
