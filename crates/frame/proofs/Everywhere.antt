@@ -1,6 +1,6 @@
--- What holds of a new slot, and of every slot that a booking leaves where it held before, holds of all slots in use Rattle.std.specs.Prelude.{Option}
-use after a frame where
+-- What holds of a new slot, and of every slot that a booking leaves where it held before, holds of all slots in use after a frame where
 -- it held of all before. Assumes nothing.
+use Rattle.std.specs.Prelude.{Option}
 use mathlib.Core.Path.{◌≡◌, refl, sym, subst}
 use mathlib.Core.Bool.{Bool, true, false, cond}
 use mathlib.Core.List.{List}
@@ -22,8 +22,7 @@ use Rattle.ids.proofs.Lookups.{found_below}
 use Rattle.slots.proofs.Tables.{ids_long}
 use Rattle.rows.specs.declared.ExtendedMOTAccumulator.{ExtendedMOTAccumulator}
 use Rattle.rows.specs.declared.Row.{Row}
-use Rattle.rows.specs.declared.Spot.{Spot}
-use Rattle.rows.specs.Rows.{spot_of, step_of, row_spot, book_row, trial_after}
+use Rattle.rows.specs.Rows.{Spot, spot_of, step_of, row_spot, book_row, trial_after}
 use Rattle.frame.specs.Frame.{next_frame, shares_of, room_for_all, raised_by, trial_no, closed, frame_of}
 use Rattle.frame.proofs.Finals.{trial_good}
 
