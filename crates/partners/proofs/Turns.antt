@@ -1,5 +1,5 @@
--- One turn of the booking of pairs: the table in use Rattle.std.specs.Prelude.{Option}
-use is the definition's, and what lies beyond it is kept. Assumes nothing.
+-- One turn of the booking of pairs: the table in use is the definition's, and what lies beyond it is kept. Assumes nothing.
+use Rattle.std.specs.Prelude.{Option}
 use mathlib.Core.Path.{◌≡◌, refl, sym, ap, ◌∙◌, subst}
 use mathlib.Core.Bool.{Bool, true, false}
 use mathlib.Core.List.{List, [], ◌∷◌, ◌++◌, map, append_assoc, append-nil}
