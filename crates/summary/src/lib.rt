@@ -4,7 +4,7 @@
 ghost use Rattle.std.specs.Prelude.{◌≡◌, true, ◌≤◌, nat_abs};
 ghost use Rattle.scores.specs.Scores.{Few};
 ghost use Rattle.summary.specs.Coverage.{Below, covered_of, used_of, share_of, marks_of, running_of};
-ghost use Rattle.summary.specs.Totals.{totals_of, few_of, no_scores, scores_for, scores_of};
+ghost use Rattle.summary.specs.Totals.{totals_of, few_of, scores_for, scores_of};
 
 use events::Tally;
 use lifecycle::TrackLifecycle;
@@ -34,10 +34,9 @@ pub struct Running {
     pub marks: u64,
 }
 
-// The scores of a tally; zeros where it has more events than a log.
+/// The scores of a tally that has no more events than a log.
 #[derive(Clone, Copy)]
 pub struct Scores {
-    pub known: bool,
     pub mota: f64,
     pub motp: f64,
     pub precision: f64,
@@ -156,7 +155,6 @@ fn scores_for(t: Tally) -> Scores
     let precision = scores::precision(t);
     let recall = scores::recall(t);
     Scores {
-        known: true,
         mota: scores::mota(t),
         motp: scores::mean(t.distance, scores::pairs(t)),
         precision,
@@ -165,20 +163,11 @@ fn scores_for(t: Tally) -> Scores
     }
 }
 
-// The scores of the extended accumulator's totals, by the rules of module 3: MOTP is the mean distance.
-pub fn scores_of(s: ExtendedMOTAccumulator) -> Scores
+/// The scores of the extended accumulator's totals, by the rules of module 3: MOTP is the mean distance. None of totals that are more than
+/// a log has.
+pub fn scores_of(s: ExtendedMOTAccumulator) -> Option<Scores>
     ensures { result ≡ scores_of s }
 {
     let t = totals(s);
-    if few(t) {
-        return scores_for(t);
-    }
-    Scores {
-        known: false,
-        mota: 0.0,
-        motp: 0.0,
-        precision: 0.0,
-        recall: 0.0,
-        f1: 0.0,
-    }
+    if few(t) { Some(scores_for(t)) } else { None }
 }
