@@ -8,10 +8,10 @@ use lib.IntN.{ℤ}
 use lib.ListN.{length}
 use lib.Ieee.{Float}
 use Rattle.events.specs.declared.Log.{Log}
-use Rattle.seen.specs.declared.SeenHypotheses.{SeenHypotheses}
+use Rattle.seen.specs.Seen.{SeenHypotheses}
 use Rattle.seen.specs.Seen.{seen_hypotheses}
-use Rattle.partners.specs.declared.Booked.{Booked}
-use Rattle.partners.specs.declared.SeenTruths.{SeenTruths}
+use Rattle.partners.specs.Partners.{Booked}
+use Rattle.partners.specs.Partners.{SeenTruths}
 use Rattle.partners.specs.Partners.{seen_truths}
 use Rattle.greedy.specs.declared.Pairing.{Pairing}
 use Rattle.greedy.specs.Greedy.{Fitting}

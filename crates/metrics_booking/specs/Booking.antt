@@ -1,10 +1,10 @@
 -- Document 01, "Lifecycles and events" and "Numbers given back": a frame of module 4 whose pairing is there, booked in any state.
 use Rattle.std.specs.Prelude.{cond, List, ℕ, ◌+◌, ◌≤◌, eqb, ltb, ℤ, length, take, Float}
 use Rattle.events.specs.declared.Event.{Event}
-use Rattle.seen.specs.declared.SeenHypotheses.{SeenHypotheses}
+use Rattle.seen.specs.Seen.{SeenHypotheses}
 use Rattle.seen.specs.Seen.{seen_hypotheses}
-use Rattle.partners.specs.declared.Booked.{Booked}
-use Rattle.partners.specs.declared.SeenTruths.{SeenTruths}
+use Rattle.partners.specs.Partners.{Booked}
+use Rattle.partners.specs.Partners.{SeenTruths}
 use Rattle.partners.specs.declared.Truths.{Truths}
 use Rattle.partners.specs.Partners.{pairs_of, booked_of, seen_truths}
 use Rattle.greedy.specs.declared.Pairing.{Pairing}

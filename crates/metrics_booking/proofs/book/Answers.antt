@@ -2,7 +2,7 @@
 use mathlib.Core.Path.{refl, sym, ap, ◌∙◌}
 use Prim.Native.Nat.{◌≤◌}
 use mir.Facts.{to_z-of_z}
-use Rattle.partners.specs.declared.SeenTruths.{SeenTruths}
+use Rattle.partners.specs.Partners.{SeenTruths}
 use Rattle.partners.proofs.Meaning.{seen_few}
 use Rattle.greedy.proofs.Pairings.{pairs_long, pairs_inside}
 use Rattle.metrics_booking.proofs.Steps as law
