@@ -64,19 +64,18 @@ fn say_events(w: &mut Writer, s: &ExtendedMOTAccumulator, a: MOTAccumulator, m: 
     say_counts(w, b"switches", s.num_switches, m.num_switches, b"");
 }
 
-fn say_shares(w: &mut Writer, e: &Scores, m: &MOTMetrics) {
-    let known = |x: f64| if e.known { Some(x) } else { None };
-    say_scores(w, b"MOTA", known(e.mota), m.mota, b"");
+fn say_shares(w: &mut Writer, e: Option<Scores>, m: &MOTMetrics) {
+    say_scores(w, b"MOTA", e.map(|x| x.mota), m.mota, b"");
     say_scores(
         w,
         b"MOTP",
-        known(e.motp),
+        e.map(|x| x.motp),
         m.motp,
         b"   the mean distance; the mean IoU",
     );
-    say_scores(w, b"precision", known(e.precision), m.precision, b"");
-    say_scores(w, b"recall", known(e.recall), m.recall, b"");
-    say_scores(w, b"f1", known(e.f1), m.idf1, b"");
+    say_scores(w, b"precision", e.map(|x| x.precision), m.precision, b"");
+    say_scores(w, b"recall", e.map(|x| x.recall), m.recall, b"");
+    say_scores(w, b"f1", e.map(|x| x.f1), m.idf1, b"");
 }
 
 fn say_classes(w: &mut Writer, x: &ExtendedMetrics) {
@@ -90,6 +89,6 @@ pub fn say_totals(w: &mut Writer, s: ExtendedMOTAccumulator, a: MOTAccumulator) 
     let m = MOTMetrics::from_accumulator(a).metrics;
     w.text(b"                 extended   module 4\n");
     say_events(w, &s, a, &m);
-    say_shares(w, &scores_of(s), &m);
+    say_shares(w, scores_of(s), &m);
     say_classes(w, &extended_metrics::compute_extended_metrics(s));
 }

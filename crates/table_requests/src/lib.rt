@@ -12,6 +12,7 @@ pub fn read_truths(reader: &mut Reader) -> Option<Given<Truths>> {
     let mut table = Truths::new();
     table.used = reader.count()? as usize;
     let given = reader.length(256)?;
+    // Kept: by an index, as each place's two words go to two arrays; a zip of two iter_mut is no plainer.
     for i in 0..given {
         table.ids[i] = reader.whole()?;
         table.lasts[i] = read_partner(reader)?;
