@@ -5,7 +5,7 @@
 ghost use Rattle.std.specs.Prelude.{◌≡◌, not, ◌+◌, ◌*◌, ◌-◌, ◌<◌, ◌≤◌, length};
 ghost use Rattle.square.specs.Index.{filled};
 ghost use Rattle.greedy.specs.Greedy.{left_of, Fitting};
-ghost use Rattle.booking.specs.Booking.{pair_event, miss_event, false_event, Lists, event_at, events_of, log_after};
+ghost use Rattle.booking.specs.Booking.{pair_event, Lists, event_at, events_of, log_after};
 
 use events::{Event, Log, What};
 use greedy::Pairing;
@@ -13,55 +13,32 @@ use greedy::Pairing;
 fn pair_event(frame: i32, switched: bool, truth: i32, hypothesis: i32, distance: f64) -> Event
     ensures { result ≡ pair_event frame switched truth hypothesis distance }
 {
-    if switched {
-        return Event {
-            frame: frame,
-            what: What::Switch(truth, hypothesis, distance),
-        };
-    }
-    Event {
-        frame: frame,
-        what: What::Match(truth, hypothesis, distance),
-    }
+    let what = if switched {
+        What::Switch(truth, hypothesis, distance)
+    } else {
+        What::Match(truth, hypothesis, distance)
+    };
+    Event { frame, what }
 }
 
-fn miss_event(frame: i32, truth: i32) -> Event
-    ensures { result ≡ miss_event frame truth }
-{
-    Event {
-        frame: frame,
-        what: What::Miss(truth),
-    }
-}
-
-fn false_event(frame: i32, hypothesis: i32) -> Event
-    ensures { result ≡ false_event frame hypothesis }
-{
-    Event {
-        frame: frame,
-        what: What::FalsePositive(hypothesis),
-    }
-}
-
-// The places below n that are not marked, rising, and 0 behind them.
+/// The places below `n` that are not marked, rising, and 0 behind them.
 pub fn left_of(marks: &[bool; 64], n: usize) -> [usize; 64]
     requires { n ≤ 64 }
     ensures { result ≡ filled 0 (left_of n marks.now) }
 {
-    let mut left: [usize; 64] = [0; 64];
+    let mut left = [0; 64];
     let mut used: usize = 0;
-    let mut i: usize = 0;
-    while i < n {
-        if !marks[i] {
+    for (i, gone) in marks[..n].iter().enumerate() {
+        if !*gone {
             left[used] = i;
-            used = used + 1;
+            used += 1;
         }
-        i = i + 1;
     }
     left
 }
 
-// Event number k of a frame: pairs in their order, then rows that are left, then columns that are left.
+#[tactic(auto, unfolding(crate::specs::Booking::event_at))]
+/// Event number `k` of a frame: pairs in their order, then rows that are left, then columns that are left.
 pub fn event_at(
     frame: i32,
     object_ids: &[i32],
@@ -84,24 +61,23 @@ pub fn event_at(
         let place = pairs[k];
         let row = greedy::row_of(place, w);
         let col = greedy::col_of(place, w);
-        let at = place as usize;
         return pair_event(
             frame,
             switched[k],
             object_ids[row],
             hypothesis_ids[col],
-            distances[at],
+            distances[place as usize],
         );
     }
-    if k < n {
-        let row = left_rows[k - used];
-        return miss_event(frame, object_ids[row]);
-    }
-    let col = left_cols[k - n];
-    false_event(frame, hypothesis_ids[col])
+    let what = if k < n {
+        What::Miss(object_ids[left_rows[k - used]])
+    } else {
+        What::FalsePositive(hypothesis_ids[left_cols[k - n]])
+    };
+    Event { frame, what }
 }
 
-// The log with the events of a frame after its own.
+/// The log with the events of a frame after its own.
 pub fn book_frame(
     mut log: Log,
     frame: i32,
@@ -116,29 +92,23 @@ pub fn book_frame(
     requires used_bound { log.used + (length object_ids.now + length hypothesis_ids.now - p.used) ≤ 1024 }
     ensures { result ≡ log_after log (events_of frame object_ids.now hypothesis_ids.now distances.now p switched.now) }
 {
-    let used = p.used;
-    let pairs = p.pairs;
-    let rows = p.rows;
-    let cols = p.cols;
-    let left_rows = left_of(&rows, object_ids.len());
-    let left_cols = left_of(&cols, hypothesis_ids.len());
-    let count = object_ids.len() + hypothesis_ids.len() - used;
+    let left_rows = left_of(&p.rows, object_ids.len());
+    let left_cols = left_of(&p.cols, hypothesis_ids.len());
     let start = log.used;
-    let mut k: usize = 0;
-    while k < count {
+    let count = object_ids.len() + hypothesis_ids.len() - p.used;
+    for k in 0..count {
         log.events[start + k] = event_at(
             frame,
             object_ids,
             hypothesis_ids,
             distances,
-            &pairs,
+            &p.pairs,
             switched,
-            used,
+            p.used,
             &left_rows,
             &left_cols,
             k,
         );
-        k = k + 1;
     }
     log.used = start + count;
     log

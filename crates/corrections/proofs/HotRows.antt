@@ -16,7 +16,8 @@ use Rattle.square.proofs.Index.{below_more}
 use Rattle.square.proofs.Picking.{picked_few, picked_in, picked_place, picked_rising}
 use Rattle.square.proofs.Square.{over-at}
 use Rattle.square.proofs.Truth.{dec, not_both, not_of_false}
-use Rattle.corrections.specs.Inner.{Columns, Hot, listed}
+use Rattle.corrections.specs.Inner.{Columns, Hot}
+use Rattle.corrections.proofs.LoopCode.{listed}
 use Rattle.corrections.specs.Correction.{correction}
 
 pub columns_of : (wanted : Bool) (C : List Bool) (n : ℕ) (columns : List ℕ) (used : ℕ) → n ≤ 64 → Picked wanted C n columns used → Columns columns used

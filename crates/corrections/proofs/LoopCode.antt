@@ -1,38 +1,144 @@
 -- The minimum and the correction over listed columns are those over all columns. Assumes nothing.
-use Prim.Native.Nat.{ℕ, zero, suc, ◌+◌, ◌*◌, ◌<◌, ◌≤◌}
-use mathlib.Core.Path.{◌≡◌, refl, sym, ap, ◌∙◌}
+use Prim.Native.Nat.{ℕ, zero, suc, ◌+◌, ◌-◌, ◌*◌, ◌<◌, ◌≤◌}
+use mathlib.Core.Path.{◌≡◌, refl, sym, ap, subst, ◌∙◌}
 use mathlib.Core.Bool.{Bool, true, false, not, cond}
-use mathlib.Core.List.{List, [], ◌∷◌}
+use mathlib.Core.List.{List, [], ◌∷◌, ◌++◌}
 use mathlib.Core.Logic.{⊎_elim}
 use native.Mathlib.Omega.{arith}
-use lib.ListN.{length, get_or, set}
-use lib.Seq.{get_or-set_same, get_or-set_other}
-use lib.Ieee.{Float, nan, inf, binary64, add, sub}
+use lib.ListN.{get_or-append, length, get_or, set, take, drop}
+use lib.Seq.{get_or-take, length-take-le, get_or-set_same, get_or-set_other}
+use lib.Ieee.{Float, nan, lt, inf, binary64, add, sub}
 use Rattle.floats.specs.Float.{is_zero}
-use borrow.Author.Tests.{not-true, not-false}
-use Rattle.square.specs.Index.{like, on, Picked}
+use borrow.Author.Tests.{not-true, not-false, ltb-false, lt-ltb, le-ltb}
+use Rattle.square.specs.Index.{like, loop, on, Picked}
 use Rattle.square.specs.Square.{at, in_row, least, line}
-use Rattle.square.proofs.Index.{below_more, loop_more, loop_same}
+use Rattle.square.proofs.Index.{eq-or-not, last_or_before, loop_more, loop_same}
 use Rattle.square.proofs.Picking.{picked_loop}
+use Rattle.square.proofs.Square.{line-length, least_new, least_old}
 use Rattle.square.proofs.Truth.{dec}
-use Rattle.corrections.specs.Inner.{Columns, least_listed, listed}
+use Rattle.std.proofs.Common.{None, Some, nat_lt}
+use Rattle.std.proofs.lemmas.List.Quantifiers.{position-Some}
+use Rattle.std.proofs.lemmas.List.{get_or-append_right, get_or-drop, set-append_left, set-append_right, take_rest}
+use borrow.Rule.Slice.PartMut.{put_mid, put_same}
+use Rattle.std.proofs.lemmas.List.Elements.{All-drop, All-from_get_or}
+use lib.ListN.{length-drop}
+use Rattle.std.specs.List.{All, position, position_or_len}
+use Rattle.std.proofs.lemmas.List.Sums.{fails_before_first, position_or_len_is}
+use native.Mathlib.Numerals.{add-one}
+use Rattle.corrections.specs.Inner.{Columns, Listed, least_in}
 use Rattle.corrections.specs.Correction.{correction, least_step, least_row, least_rows, shifted_of}
 
+-- the places of a row's listed columns
+abbrev pub listed : ℕ → List ℕ → ℕ → ℕ
+listed i columns t = i * 64 + get_or columns t 0
+
 -- ---- the minimum
-pub listed_none : (c : List Float) (i : ℕ) (columns : List ℕ) (m : Float) → least_listed c i columns 0 m ≡ m
-unfolding least_listed
-listed_none c i columns m = refl
+abbrev Smaller : List Float → Float → ℕ → Bool
+Smaller row m j = lt (get_or row j nan) m
 
-pub listed_more : (c : List Float) (i : ℕ) (columns : List ℕ) (k : ℕ) (m₀ m m' : Float) → m ≡ least_listed c i columns k m₀ → m' ≡ least m (get_or c (listed i columns k) nan)
-    → m' ≡ least_listed c i columns (k + 1) m₀
-unfolding least_listed
-listed_more c i columns k m₀ m m' v e =
-    e ∙ ap (λ (x : Float). least x (get_or c (listed i columns k) nan)) v ∙ sym (loop_more k (λ t m. least m (get_or c (listed i columns t) nan)) m₀)
+-- where no listed entry is smaller
+passed : (row : List Float) (js : List ℕ) (m : Float) → ((t : ℕ) → t < length js → Smaller row m (get_or js t 0) ≡ false) → least_in row js m ≡ m
+unfolding least_in
+passed row [] m h = refl
+passed row (j ∷ js) m h = ap (least_in row js) (sym (least_old m (get_or row j nan) m refl (h 0 (omega arith)))) ∙ passed row js m (λ t l. h (suc t) (omega arith))
 
-pub listed_row : (c : List Float) (C : List Bool) (i n : ℕ) (columns : List ℕ) (used : ℕ) (m : Float) → Picked false C n columns used → least_listed c i columns used m ≡ least_row c C i n m
-unfolding least_listed least_row least_step
-listed_row c C i n columns used m v =
-    picked_loop false C n columns used v (λ j m. least m (at c i j)) m ∙ loop_same n _ _ m (λ j _ x. flipped (on C j) (least x (at c i j)) x)
+-- where the one at place t is the first that is
+reached : (row : List Float) (js : List ℕ) (m : Float) (t : ℕ) → t < length js → ((s : ℕ) → s < t → Smaller row m (get_or js s 0) ≡ false) → Smaller row m (get_or js t 0) ≡ true
+    → least_in row js m ≡ least_in row (drop (suc t) js) (get_or row (get_or js t 0) nan)
+unfolding least_in
+reached row [] m t l h e = absurd (omega arith)
+reached row (j ∷ js) m zero l h e = ap (least_in row js) (sym (least_new m (get_or row j nan) (get_or row j nan) refl e))
+reached row (j ∷ js) m (suc t) l h e = ap (least_in row js) (sym (least_old m (get_or row j nan) m refl (h 0 (omega arith)))) ∙ reached row js m t (omega arith) (λ s ls. h (suc s) (omega arith)) e
+
+-- what a loop over the list finds
+module _ (row : List Float) (m : Float) (js : List ℕ) (t : ℕ) where
+  pub first_at : t < length js → ((k : ℕ) → k < t → Smaller row m (get_or js k 0) ≡ false) → Smaller row m (get_or js t 0) ≡ true → Some t ≡ position (Smaller row m) js
+  first_at l h e =
+      let is : position_or_len (Smaller row m) js ≡ t = position_or_len_is (Smaller row m) js t 0 (omega arith) h (λ _. e) in
+      sym (rw (is, lt-ltb t (length js) l))
+
+  pub none_at : length js ≤ t → ((k : ℕ) → k < t → Smaller row m (get_or js k 0) ≡ false) → None ≡ position (Smaller row m) js
+  none_at l h =
+      let is : position_or_len (Smaller row m) js ≡ length js = position_or_len_is (Smaller row m) js (length js) 0 (omega arith) (λ k lk. h k (omega arith)) (λ lt. absurd (omega arith)) in
+      sym (rw (is, le-ltb (length js) (length js) (omega arith)))
+
+none_passes : (p : ℕ → Bool) (js : List ℕ) → None ≡ position p js → length js ≤ position_or_len p js
+none_passes p js e = go (nat_lt (position_or_len p js) (length js)) refl e
+  where
+    go : (b : Bool) → nat_lt (position_or_len p js) (length js) ≡ b → None ≡ cond b (Some (position_or_len p js)) None → length js ≤ position_or_len p js
+    go true q e = cc
+    go false q e = ltb-false (position_or_len p js) (length js) q
+
+least_none : (row : List Float) (js : List ℕ) (m : Float) → None ≡ position (Smaller row m) js → m ≡ least_in row js m
+least_none row js m e = sym (passed row js m (λ t l. fails_before_first (Smaller row m) js t 0 (omega (arith, none_passes (Smaller row m) js e))))
+
+least_some : (row : List Float) (js : List ℕ) (m : Float) (t : ℕ) → Some t ≡ position (Smaller row m) js
+    → least_in row js m ≡ least_in row (drop (t + 1) js) (get_or row (get_or js t 0) nan)
+least_some row js m t e =
+    let v = position-Some (Smaller row m) js t 0 (sym e) in
+    reached row js m t v.0 v.2 v.1 ∙ ap (λ (k : ℕ). least_in row (drop k js) (get_or row (get_or js t 0) nan)) (sym (add-one t))
+
+-- from m over the columns that are left: as from the beginning over all of them
+pub record Left (row : List Float) (columns rest : List ℕ) (least m : Float) : Type 0 where
+  pub inside : All (λ j. j < length row) rest
+  pub few : length rest ≤ 64
+  pub as_all : least_in row rest m ≡ least_in row columns least
+
+pub left_more : (row : List Float) (columns rest : List ℕ) (least m : Float) (t : ℕ) → Left row columns rest least m → Some t ≡ position (Smaller row m) rest
+    → Left row columns (take (length rest - (t + 1)) (drop (t + 1) rest)) least (get_or row (get_or rest t 0) nan)
+left_more row columns rest least m t v e = rw (take_rest rest (t + 1)) (record {
+  inside = All-drop (λ j. j < length row) (t + 1) rest v.inside;
+  few = omega (arith, v.few, length-drop (t + 1) rest);
+  as_all = sym (least_some row rest m t e) ∙ v.as_all;
+})
+
+pub left_none : (row : List Float) (columns rest : List ℕ) (least m : Float) → Left row columns rest least m → None ≡ position (Smaller row m) rest → m ≡ least_in row columns least
+left_none row columns rest least m v e = least_none row rest m e ∙ v.as_all
+
+-- ---- a row of the square, and the listed columns in an array
+abbrev pub row_of : ℕ → List Float → List Float
+row_of i c = take (i * 64 + 64 - i * 64) (drop (i * 64) c)
+
+row_long : (i : ℕ) → i * 64 + 64 - i * 64 ≡ 64
+row_long i = omega arith
+
+pub row_of-length : (i : ℕ) (c : List Float) → i * 64 + 64 ≤ length c → length (row_of i c) ≡ 64
+row_of-length i c fits = rw (row_long i) (length-take-le 64 (drop (i * 64) c) (omega (arith, length-drop (i * 64) c)))
+
+row_of-at : (i : ℕ) (c : List Float) (j : ℕ) → j < 64 → get_or (row_of i c) j nan ≡ get_or c (i * 64 + j) nan
+row_of-at i c j l = rw (row_long i) (get_or-take 64 (drop (i * 64) c) j nan l ∙ get_or-drop (i * 64) c j nan)
+
+pub all_inside : (columns : List ℕ) (used : ℕ) → Columns columns used → used ≤ length columns → All (λ j. j < 64) (take used columns)
+all_inside columns used v le = All-from_get_or (λ j. j < 64) (take used columns) 0
+    (λ t l. subst (λ (j : ℕ). j < 64) (sym (get_or-take used columns t 0 (omega (arith, length-take-le used columns le)))) (v.inside t (omega (arith, length-take-le used columns le))))
+
+-- what the functions of one row ask
+pub asked : (i : ℕ) (c : List Float) (columns : List ℕ) (used : ℕ) → Columns columns used → used ≤ length columns → i * 64 + 64 ≤ length c
+    → All (λ j. j < length (row_of i c)) (take used columns) × (length (take used columns) ≤ 64) × (length (row_of i c) ≡ 64)
+asked i c columns used v le fits = (
+  subst (λ (n : ℕ). All (λ j. j < n) (take used columns)) (sym (row_of-length i c fits)) (all_inside columns used v le),
+  omega (arith, v.few, length-take-le used columns le),
+  row_of-length i c fits,
+)
+
+loop_first : {A : Type 0} (k : ℕ) (f : ℕ → A → A) (a : A) → loop (suc k) f a ≡ loop k (λ t. f (suc t)) (f 0 a)
+unfolding loop
+loop_first zero f a = refl
+loop_first (suc k) f a = ap (f (suc k)) (loop_first k f a)
+
+as_loop : (row : List Float) (js : List ℕ) (m : Float) → least_in row js m ≡ loop (length js) (λ t x. least x (get_or row (get_or js t 0) nan)) m
+unfolding least_in loop
+as_loop row [] m = refl
+as_loop row (j ∷ js) m = as_loop row js (least m (get_or row j nan)) ∙ sym (loop_first (length js) (λ t x. least x (get_or row (get_or (j ∷ js) t 0) nan)) m)
+
+pub listed_row : (c : List Float) (C : List Bool) (i n : ℕ) (columns : List ℕ) (used : ℕ) (m : Float) → Columns columns used → used ≤ length columns → Picked false C n columns used
+    → least_in (row_of i c) (take used columns) m ≡ least_row c C i n m
+unfolding least_row least_step
+listed_row c C i n columns used m w le v =
+    as_loop (row_of i c) (take used columns) m
+    ∙ ap (λ (k : ℕ). loop k (λ t x. least x (get_or (row_of i c) (get_or (take used columns) t 0) nan)) m) (length-take-le used columns le)
+    ∙ loop_same used _ _ m (λ t l x. ap (least x) (ap (λ (j : ℕ). get_or (row_of i c) j nan) (get_or-take used columns t 0 l) ∙ row_of-at i c (get_or columns t 0) (w.inside t l)))
+    ∙ picked_loop false C n columns used v (λ j x. least x (at c i j)) m ∙ loop_same n _ _ m (λ j _ x. flipped (on C j) (least x (at c i j)) x)
   where
     flipped : (b : Bool) (x y : Float) → cond (not b) x y ≡ cond b y x
     flipped true x y = refl
@@ -73,13 +179,65 @@ module _ (i n : ℕ) (wanted : Bool) (C : List Bool) (columns : List ℕ) (used 
   line_picked c = picked_loop wanted C n columns used v (λ j c. set c (in_row i j) (g (get_or c (in_row i j) nan))) c ∙ loop_same n _ _ c (λ j _ x. one j x)
 
 -- none of the first listed entries is a zero, and the next is none either
-pub zeros_more : (i : ℕ) (columns : List ℕ) (used : ℕ) → Columns columns used → (c : List Float) → i * 64 + 64 ≤ length c → (t : ℕ) → t < used → (x : Float)
-    → ((s : ℕ) → s < t → is_zero (get_or c (listed i columns s) nan) ≡ false) → is_zero x ≡ false
-    → (s : ℕ) → s < t + 1 → is_zero (get_or (set c (listed i columns t) x) (listed i columns s) nan) ≡ false
-zeros_more i columns used v c fits t lt x old z s l = below_more t (λ s. is_zero (get_or (set c (listed i columns t) x) (listed i columns s) nan) ≡ false)
-    (λ s ls. ap is_zero (get_or-set_other c (listed i columns t) (listed i columns s) x nan (λ e. omega (arith, v.rising s t ls lt))) ∙ old s ls)
-    (ap is_zero (get_or-set_same c (listed i columns t) x nan (omega (arith, v.inside t lt))) ∙ z)
-    s (omega arith)
+pub zeros_more : (columns : List ℕ) (row : List Float) (t : ℕ) (x : Float) → get_or columns t 0 < length row
+    → ((s : ℕ) → s < t → is_zero (get_or row (Listed columns s) nan) ≡ false) → is_zero x ≡ false
+    → (s : ℕ) → s < t + 1 → is_zero (get_or (set row (get_or columns t 0) x) (Listed columns s) nan) ≡ false
+zeros_more columns row t x l old z s ls = ⊎_elim
+    (λ (e : get_or columns s 0 ≡ get_or columns t 0). subst (λ (p : ℕ). is_zero (get_or (set row (get_or columns t 0) x) p nan) ≡ false) (sym e)
+    (ap is_zero (get_or-set_same row (get_or columns t 0) x nan l) ∙ z))
+    (λ (ne : get_or columns s 0 ≡ get_or columns t 0 → ⊥). ap is_zero (get_or-set_other row (get_or columns t 0) (get_or columns s 0) x nan ne)
+    ∙ ⊎_elim (λ (e : s ≡ t). absurd (ne (ap (λ (k : ℕ). get_or columns k 0) e))) (λ (lt : s < t). old s lt) (last_or_before (omega arith)))
+    (eq-or-not (get_or columns s 0) (get_or columns t 0))
+
+-- ---- a row that was written to, put back
+set_in : (A L P : List Float) (a j : ℕ) (v : Float) → length A ≡ a → j < length L → A ++ (set L j v ++ P) ≡ set (A ++ (L ++ P)) (a + j) v
+set_in A L P a j v e l =
+    let less : a + j - a ≡ j = omega arith in
+    sym (set-append_right A (L ++ P) a (a + j) v e (omega arith) ∙ ap (λ (z : List Float). A ++ z) (ap (λ (k : ℕ). set (L ++ P) k v) less ∙ set-append_left L P j v l))
+
+get_in : (A L P : List Float) (a j : ℕ) → length A ≡ a → j < length L → get_or L j nan ≡ get_or (A ++ (L ++ P)) (a + j) nan
+get_in A L P a j e l =
+    let less : a + j - a ≡ j = omega arith in
+    sym (get_or-append_right A (L ++ P) a (a + j) nan e (omega arith) ∙ ap (λ (k : ℕ). get_or (L ++ P) k nan) less ∙ get_or-append L P nan j l)
+
+-- the square with the row in its place
+abbrev pub put_row : ℕ → List Float → List Float → List Float
+put_row i c row = put_mid (i * 64) (i * 64 + 64 - i * 64) c row
+
+module _ (i : ℕ) (c : List Float) (fits : i * 64 + 64 ≤ length c) where
+  before : length (take (i * 64) c) ≡ i * 64
+  before = length-take-le (i * 64) c (omega arith)
+
+  pub put_row-at : (row : List Float) (j : ℕ) → length row ≡ 64 → j < 64 → get_or row j nan ≡ get_or (put_row i c row) (i * 64 + j) nan
+  put_row-at row j e l = get_in (take (i * 64) c) row (drop (i * 64 + 64 - i * 64) (drop (i * 64) c)) (i * 64) j before (omega arith)
+
+  module _ (columns : List ℕ) (used : ℕ) (v : Columns columns used) (le : used ≤ length columns) (f : Float → Float) where
+    -- the row's first k listed entries
+    abbrev Row : ℕ → List Float
+    Row k = line (Listed (take used columns)) k (λ _. f) (row_of i c)
+
+    Row-length : (k : ℕ) → length (Row k) ≡ 64
+    Row-length k = line-length (Listed (take used columns)) (λ _. f) k (row_of i c) ∙ row_of-length i c fits
+
+    row_line : (k : ℕ) → k ≤ used → put_row i c (Row k) ≡ line (listed i columns) k (λ _. f) c
+    unfolding line
+    row_line zero l = put_same (i * 64) (i * 64 + 64 - i * 64) c
+    row_line (suc k) l = rw (get_or-take used columns k 0 l) (
+        set_in (take (i * 64) c) (Row k) (drop (i * 64 + 64 - i * 64) (drop (i * 64) c)) (i * 64) (get_or columns k 0) _ before (omega (arith, Row-length k, v.inside k l))
+        ∙ ap (λ (x : Float). set (put_row i c (Row k)) (listed i columns k) (f x)) (put_row-at (Row k) (get_or columns k 0) (Row-length k) (v.inside k l))
+        ∙ ap (λ (x : List Float). set x (listed i columns k) (f (get_or x (listed i columns k) nan))) (row_line k (omega arith)))
+
+    pub put_back : (row : List Float) → row ≡ line (Listed (take used columns)) (length (take used columns)) (λ _. f) (row_of i c)
+        → put_row i c row ≡ line (listed i columns) used (λ _. f) c
+    put_back row e = ap (put_row i c) (e ∙ ap (λ (k : ℕ). Row k) (length-take-le used columns le)) ∙ row_line used (omega arith)
+
+    -- what is known of the row's listed entries, said of the square
+    pub zeros_back : (row : List Float) → length row ≡ 64 → ((t : ℕ) → t < length (take used columns) → is_zero (get_or row (Listed (take used columns) t) nan) ≡ false)
+        → (t : ℕ) → t < used → is_zero (get_or (put_row i c row) (listed i columns t) nan) ≡ false
+    zeros_back row e h t l =
+        let w : is_zero (get_or row (get_or (take used columns) t 0) nan) ≡ false = h t (omega (arith, length-take-le used columns le)) in
+        ap is_zero (sym (put_row-at row (get_or columns t 0) e (v.inside t l)))
+        ∙ ap (λ (j : ℕ). is_zero (get_or row j nan)) (sym (get_or-take used columns t 0 l)) ∙ w
 
 module _ (R C : List Bool) (m : Float) (i n : ℕ) (columns : List ℕ) (used : ℕ) where
   shifted_is : (a b a' b' : Bool) (x : Float) → a ≡ a' → b ≡ b' → shifted_of a' b' m x ≡ shifted_of a b m x

@@ -1,69 +1,62 @@
-// Step F's minimum and step G of the search. The square lies at stride 64; sets of rows and columns are marks, or columns in a list.
+//! Step F's minimum and step G of the search. The square lies at stride 64; sets of rows and columns are marks, or columns in a list.
 #![tactic(auto)]
 
-ghost use Rattle.std.specs.Prelude.{◌≡◌, Bool, false, ℕ, ◌+◌, ◌*◌, ◌≤◌, ◌<◌, List, length, get_or};
+ghost use Rattle.std.specs.Prelude.{◌≡◌, Bool, false, ℕ, ◌+◌, ◌*◌, ◌≤◌, ◌<◌, List, length, get_or, position, IfSome};
 ghost use Rattle.std.specs.Float.{nan, binary64};
-ghost use Rattle.std.specs.Float.Ieee.{add, sub};
+ghost use Rattle.std.specs.Float.Ieee.{add, sub, lt};
+ghost use Rattle.std.specs.List.{All};
 ghost use Rattle.floats.specs.Float.{is_zero};
 ghost use Rattle.square.specs.Index.{Picked};
 ghost use Rattle.square.specs.Square.{line};
 ghost use Rattle.corrections.specs.Correction.{least_over, useful_of, shift_of};
-ghost use Rattle.corrections.specs.Inner.{Columns, least_listed, listed, Below, Hot};
+ghost use Rattle.corrections.specs.Inner.{Columns, least_in, Listed, Hot};
 
-// The first listed column from place `from` on where a row's entry is smaller than m, or `used`.
-fn next_below(
-    c: &[f64],
-    row: usize,
-    columns: &[usize; 64],
-    used: usize,
-    from: usize,
-    m: f64,
-) -> usize
-    requires { (row < 64) × Columns columns.now used × (from ≤ used) × (row * 64 + 64 ≤ length c.now) }
-    ensures { Below c.now row columns.now used from m result }
+/// The first listed column whose entry in a row is smaller than m.
+fn next_below(line: &[f64], columns: &[usize], m: f64) -> Option<usize>
+    requires { All (λ j. j < length line.now) columns.now × (length line.now ≡ 64) }
+    ensures within { IfSome result (λ t. t < length columns.now) }
+    ensures first { result ≡ position (λ j. lt (get_or line.now j nan) m) columns.now }
 {
-    let mut t = from;
-    while t < used {
-        if c[row * 64 + columns[t]] < m {
-            return t;
+    // Kept: `position` is slower here, by 4 in 100 of a 64 by 64 search's instructions: it counts an index beside its pointer.
+    for (t, col) in columns.iter().enumerate() {
+        if line[*col] < m {
+            return Some(t);
         }
-        t += 1;
     }
-    t
+    None
 }
 
-// The smaller of m and a row's entries in the listed columns, NaN passed over. Few are smaller than all before them: it goes from one of
-// these to the next, and tests the others only.
-fn least_row(c: &[f64], row: usize, columns: &[usize; 64], used: usize, least: f64) -> f64
-    requires { (row < 64) × Columns columns.now used × (row * 64 + 64 ≤ length c.now) }
-    ensures { result ≡ least_listed c.now row columns.now used least }
+/// The smaller of m and a row's entries in the listed columns, NaN passed over. Few are smaller than all before them: it goes from one of
+/// these to the next, and tests the others only.
+fn least_row(line: &[f64], columns: &[usize], least: f64) -> f64
+    requires { All (λ j. j < length line.now) columns.now × (length columns.now ≤ 64) × (length line.now ≡ 64) }
+    ensures { result ≡ least_in line.now columns.now least }
 {
     let mut m = least;
-    let mut t = next_below(c, row, columns, used, 0, m);
-    while t < used {
-        m = c[row * 64 + columns[t]];
-        t = next_below(c, row, columns, used, t + 1, m);
+    let mut rest = columns;
+    while let Some(t) = next_below(line, rest, m) {
+        m = line[rest[t]];
+        rest = &rest[t + 1..];
     }
     m
 }
 
-// The minimum over the marked rows and the listed columns, which are those outside some C.
+/// The minimum over the marked rows and the listed columns, which are those outside some C.
 pub fn least_over(c: &[f64], n: usize, rs: &[bool; 64], columns: &[usize; 64], used: usize) -> f64
     requires { (n ≤ 64) × (n * 64 ≤ length c.now) × Columns columns.now used }
     ensures { (C : List Bool) → Picked false C n columns.now used → result ≡ least_over c.now n rs.now C }
 {
+    let columns = &columns[..used];
     let mut m = 1.0 / 0.0;
-    let mut row = 0usize;
-    while row < n {
-        if rs[row] {
-            m = least_row(c, row, columns, used, m);
+    for (row, marked) in rs[..n].iter().enumerate() {
+        if *marked {
+            m = least_row(&c[row * 64..row * 64 + 64], columns, m);
         }
-        row += 1;
     }
     m
 }
 
-// Whether a correction by m is of use: m is finite and above 0.
+/// Whether a correction by m is of use: m is finite and above 0.
 pub fn useful(m: f64) -> bool
     ensures { result ≡ useful_of m }
 {
@@ -73,40 +66,34 @@ pub fn useful(m: f64) -> bool
     floats::is_finite(m)
 }
 
-// A row's listed entries less m, and whether one of them is a zero then.
-fn take_off(c: &mut [f64], row: usize, columns: &[usize; 64], used: usize, m: f64) -> bool
-    requires { (row < 64) × Columns columns.now used × (row * 64 + 64 ≤ length c.old) }
-    ensures taken { c.new ≡ line (listed row columns.now) used (λ _ x. sub binary64 x m) c.old }
-    ensures zeros { result ≡ false → (t : ℕ) → t < used → is_zero (get_or c.new (listed row columns.now t) nan) ≡ false }
+/// A row's listed entries less m, and whether one of them is a zero then.
+fn take_off(entries: &mut [f64], columns: &[usize], m: f64) -> bool
+    requires { All (λ j. j < length entries.old) columns.now × (length entries.old ≡ 64) }
+    ensures taken { entries.new ≡ line (Listed columns.now) (length columns.now) (λ _ x. sub binary64 x m) entries.old }
+    ensures zeros { result ≡ false → (t : ℕ) → t < length columns.now → is_zero (get_or entries.new (Listed columns.now t) nan) ≡ false }
 {
     let mut zero = false;
-    let mut t = 0usize;
-    while t < used {
-        let at = row * 64 + columns[t];
-        let x = c[at] - m;
-        c[at] = x;
+    for col in columns {
+        let x = entries[*col] - m;
+        entries[*col] = x;
         if floats::is_zero(x) {
             zero = true;
         }
-        t += 1;
     }
     zero
 }
 
-// A row's listed entries and m.
-fn put_on(c: &mut [f64], row: usize, columns: &[usize; 64], used: usize, m: f64)
-    requires { (row < 64) × Columns columns.now used × (row * 64 + 64 ≤ length c.old) }
-    ensures { c.new ≡ line (listed row columns.now) used (λ _ x. add binary64 x m) c.old }
+/// A row's listed entries and m.
+fn put_on(entries: &mut [f64], columns: &[usize], m: f64)
+    requires { All (λ j. j < length entries.old) columns.now × (length entries.old ≡ 64) }
+    ensures { entries.new ≡ line (Listed columns.now) (length columns.now) (λ _ x. add binary64 x m) entries.old }
 {
-    let mut t = 0usize;
-    while t < used {
-        let at = row * 64 + columns[t];
-        c[at] = c[at] + m;
-        t += 1;
+    for col in columns {
+        entries[*col] += m;
     }
 }
 
-// Step G: m is taken off in R outside C, whose columns are listed, and put on outside R in C. `hot` gets marks at the rows of R that have a new zero.
+/// Step G: m is taken off in R outside C, whose columns are listed, and put on outside R in C. `hot` gets marks at the rows of R that have a new zero.
 pub fn shift(
     c: &mut [f64],
     n: usize,
@@ -123,14 +110,15 @@ pub fn shift(
 {
     let mut inside = [0usize; 64];
     let homes = square::pick(cs, n, true, &mut inside);
-    let mut row = 0usize;
-    while row < n {
-        if rs[row] {
-            hot[row] = take_off(c, row, away, aways, m);
+    let away = &away[..aways];
+    let home = &inside[..homes];
+    for (row, marked) in rs[..n].iter().enumerate() {
+        let entries = &mut c[row * 64..row * 64 + 64];
+        if *marked {
+            hot[row] = take_off(entries, away, m);
         } else {
             hot[row] = false;
-            put_on(c, row, &inside, homes, m);
+            put_on(entries, home, m);
         }
-        row += 1;
     }
 }

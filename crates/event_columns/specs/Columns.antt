@@ -1,5 +1,5 @@
 -- A log of 1,024 events in two runs: four columns of whole numbers, one after the other, and one column of distances.
-use Rattle.std.specs.Prelude.{Bool, cond, List, [], ◌∷◌, ℕ, zero, suc, ◌<◌, ◌≡◌, ℤ, pos, get_or, Float}
+use Rattle.std.specs.Prelude.{cond, List, [], ◌∷◌, ℕ, zero, suc, ◌<◌, ◌≡◌, ℤ, pos, get_or, Float}
 use Rattle.std.specs.Float.{nan}
 use Rattle.floats.specs.Float.{zero64}
 use Rattle.counts.specs.Counts.{same_id}

@@ -1,7 +1,7 @@
 -- A tally, event by event, and how its counts hang together. Assumes nothing.
 use mathlib.Core.Path.{◌≡◌, refl, sym, ap, ◌∙◌}
 use mathlib.Core.List.{List, [], ◌∷◌, ◌++◌}
-use Prim.Native.Nat.{ℕ, ◌<◌, ◌+◌}
+use Prim.Native.Nat.{ℕ, ◌<◌, ◌≤◌, ◌+◌}
 use native.Mathlib.Omega.{arith}
 use native.Mathlib.Numerals.{add-one}
 use lib.ListN.{length, take, get_or}
@@ -73,7 +73,7 @@ truths_counted [] = refl
 truths_counted (e ∷ es) = let h = truths_counted es in let g = truth_case e.what in omega arith
 
 -- so no count passes the length of the log
-pub room_left : (events : List Event) (i : ℕ) (t : Tally) → length events ≡ 1024 → i < 1024 → t ≡ tally_of (take i events) → Room t
+pub room_left : (events : List Event) (i : ℕ) (t : Tally) → length events ≤ 1024 → i < length events → t ≡ tally_of (take i events) → Room t
 room_left events i t l h e =
     let a = all_counted (take i events) in
     let b = truths_counted (take i events) in

@@ -6,8 +6,8 @@
 ghost use Rattle.std.specs.Prelude.{◌≡◌, ◌≤◌, take};
 ghost use Rattle.events.specs.Events.{empty_log, Room, paired_of, added_of, tally_of};
 
-// What happened: a truth id matched to a hypothesis id at a distance, the same with a partner other than its last, a
-// truth id missed, or a hypothesis id that stands alone.
+/// What happened: a truth id matched to a hypothesis id at a distance, the same with a partner other than its last, a
+/// truth id missed, or a hypothesis id that stands alone.
 #[derive(Clone, Copy)]
 pub enum What {
     Match(i32, i32, f64),
@@ -16,19 +16,21 @@ pub enum What {
     FalsePositive(i32),
 }
 
+/// What happened at a frame.
 #[derive(Clone, Copy)]
 pub struct Event {
     pub frame: i32,
     pub what: What,
 }
 
+/// The first `used` of 1,024 events; what stands behind them is never read.
 #[derive(Clone, Copy)]
 pub struct Log {
     pub events: [Event; 1024],
     pub used: usize,
 }
 
-// How often each case stands in a log, how many events hold a truth id, and the sums of the distances and of 1.0 less each.
+/// How often each case stands in a log, how many events hold a truth id, and the sums of the distances and of 1.0 less each.
 #[derive(Clone, Copy)]
 pub struct Tally {
     pub matches: usize,
@@ -40,7 +42,7 @@ pub struct Tally {
     pub iou: f64,
 }
 
-// A log with no event; its places hold something, which is never read.
+/// A log with no event.
 pub fn new_log() -> Log
     ensures { result ≡ empty_log }
 {
@@ -48,56 +50,54 @@ pub fn new_log() -> Log
         frame: 0,
         what: What::Miss(0),
     };
-    let events = [nothing; 1024];
     Log {
-        events: events,
+        events: [nothing; 1024],
         used: 0,
     }
 }
 
 // A tally with the distance of one pair more.
+#[tactic(auto, unfolding(crate::specs::Events::paired_of))]
 fn paired(t: Tally, d: f64) -> Tally
     requires { Room t }
     ensures { result ≡ paired_of t d }
 {
-    let mut u = t;
-    u.truths = t.truths + 1;
-    u.distance = t.distance + d;
-    u.iou = t.iou + (1.0 - d);
-    u
+    Tally {
+        truths: t.truths + 1,
+        distance: t.distance + d,
+        iou: t.iou + (1.0 - d),
+        ..t
+    }
 }
 
 // A tally with one event more.
+#[tactic(auto, unfolding(crate::specs::Events::added_of, crate::specs::Events::paired_of, crate::specs::Events::plus_each))]
 fn added(t: Tally, what: What) -> Tally
     requires { Room t }
     ensures { result ≡ added_of t what }
 {
     match what {
-        What::Match(_, _, d) => {
-            let mut u = paired(t, d);
-            u.matches = t.matches + 1;
-            u
-        }
-        What::Switch(_, _, d) => {
-            let mut u = paired(t, d);
-            u.switches = t.switches + 1;
-            u
-        }
-        What::Miss(_) => {
-            let mut u = t;
-            u.misses = t.misses + 1;
-            u.truths = t.truths + 1;
-            u
-        }
-        What::FalsePositive(_) => {
-            let mut u = t;
-            u.false_positives = t.false_positives + 1;
-            u
-        }
+        What::Match(_, _, d) => Tally {
+            matches: t.matches + 1,
+            ..paired(t, d)
+        },
+        What::Switch(_, _, d) => Tally {
+            switches: t.switches + 1,
+            ..paired(t, d)
+        },
+        What::Miss(_) => Tally {
+            misses: t.misses + 1,
+            truths: t.truths + 1,
+            ..t
+        },
+        What::FalsePositive(_) => Tally {
+            false_positives: t.false_positives + 1,
+            ..t
+        },
     }
 }
 
-// The first used events of a log, counted and summed in their order.
+/// The first `used` events of a log, counted and summed in their order.
 pub fn tallied(events: [Event; 1024], used: usize) -> Tally
     requires { used ≤ 1024 }
     ensures { result ≡ tally_of (take used events) }
@@ -111,12 +111,8 @@ pub fn tallied(events: [Event; 1024], used: usize) -> Tally
         distance: 0.0,
         iou: 0.0,
     };
-    let mut i: usize = 0;
-    while i < used {
-        let event = events[i];
-        let what = event.what;
-        t = added(t, what);
-        i = i + 1;
+    for event in &events[..used] {
+        t = added(t, event.what);
     }
     t
 }

@@ -1,6 +1,6 @@
--- What holds of a new slot, and of every slot that a booking leaves where it held before, holds of all slots in use Rattle.std.specs.Prelude.{Option}
-use after a frame where
+-- What holds of a new slot, and of every slot that a booking leaves where it held before, holds of all slots in use after a frame where
 -- it held of all before. Assumes nothing.
+use Rattle.std.specs.Prelude.{Option}
 use mathlib.Core.Path.{◌≡◌, refl, sym, subst}
 use mathlib.Core.Bool.{Bool, true, false, cond}
 use mathlib.Core.List.{List}

@@ -7,14 +7,14 @@ use native.Mathlib.Omega.{arith}
 use native.Mathlib.Nat.{not-suc-le-zero, div-lt_iff_lt-mul, mod-lt, mul-zero}
 use native.Mathlib.Numerals.{add-one}
 use lib.ListN.{length, get_or, set, length-set, take, length-append, length-map}
-use lib.Seq.{take-suc, take-length}
+use lib.Seq.{take-suc}
 use Rattle.square.specs.Index.{filled, on}
 use Rattle.square.proofs.Count.{count_room}
 use Rattle.square.proofs.Gather.{fill_one}
 use Rattle.sorting.specs.Order.{Each}
 use Rattle.sorting.proofs.Permutes.{each_at}
 use Rattle.greedy.specs.declared.Pairing.{Pairing}
-use Rattle.greedy.specs.Greedy.{both_free, taken, taken_of, none, rows_of, cols_of, marked, pairing_of}
+use Rattle.greedy.specs.Greedy.{both_free, taken, taken_of, none, rows_of, cols_of, marked, pairing_with, pairing_of}
 use Rattle.greedy.proofs.Marks.{Fresh, marked_more, counted}
 
 -- ---- a pair's ends
@@ -115,81 +115,78 @@ taken_more w (j ∷ l) k rows cols =
     go true x₁ x₂ t₁ t₂ r s = ap (λ (x : List ℕ). j ∷ x) r
     go false x₁ x₂ t₁ t₂ r s = s
 
--- what the code's arrays hold
-abbrev pub held : List ℕ → ℕ → List Bool → List Bool → Pairing
-held pairs used rows cols = record { pairs = pairs; used = used; rows = rows; cols = cols }
+pub starts : (w : ℕ) (order : List ℕ) → pairing_with w [] ≡ pairing_of w (take 0 order)
+unfolding pairing_of taken
+starts w order = refl
 
--- what the loop keeps: the arrays hold what is taken of the first i pairs
-pub record Taking (w : ℕ) (order pairs : List ℕ) (rows cols : List Bool) (used i : ℕ) : Type 0 where
-  pub within : i ≤ length order
-  pub pairs_are : pairs ≡ filled 0 (taken_of w (take i order))
-  pub used_is : used ≡ length (taken_of w (take i order))
-  pub rows_are : rows ≡ marked (rows_of w (taken_of w (take i order))) none
-  pub cols_are : cols ≡ marked (cols_of w (taken_of w (take i order))) none
-
-pub starts : (w : ℕ) (order : List ℕ) → Taking w order (filled 0 []) none none 0 0
-unfolding taken marked
-starts w order = record { within = omega arith; pairs_are = refl; used_is = refl; rows_are = refl; cols_are = refl }
-
-pub done : (w : ℕ) (order pairs : List ℕ) (rows cols : List Bool) (used i : ℕ) → i ≡ length order → Taking w order pairs rows cols used i
-    → held pairs used rows cols ≡ pairing_of w order
-unfolding pairing_of
-done w order pairs rows cols used i e p =
-    let f : take i order ≡ order = ap (λ (x : ℕ). take x order) e ∙ take-length order in
-    rw (p.pairs_are, p.used_is, p.rows_are, p.cols_are, f) refl
-
-module _ (n w : ℕ) (order pairs : List ℕ) (rows cols : List Bool) (used i : ℕ) (n64 : n ≤ 64) (w64 : w ≤ 64) (inside : Each (λ k. k < n * w) order)
-    (p : Taking w order pairs rows cols used i) (h : i < length order) where
-  pub pair_in : get_or order i 0 < n * w
-  pair_in = each_at (λ k. k < n * w) order i inside h
+-- the pairing p of the first i pairs, and the pair in hand, with its row and its column
+module _ (n w : ℕ) (order : List ℕ) (i : ℕ) (n64 : n ≤ 64) (w64 : w ≤ 64) (inside : Each (λ k. k < n * w) order) (h : i < length order)
+    (p : Pairing) (e : p ≡ pairing_of w (take i order)) where
+  abbrev k : ℕ
+  k = get_or order i 0
 
   abbrev t : List ℕ
   t = taken_of w (take i order)
 
-  so_far : Each (λ k. k < n * w) (take i order)
-  so_far = each_take (λ k. k < n * w) i order inside
+  pub pair_in : get_or order i 0 < n * w
+  pair_in = each_at (λ j. j < n * w) order i inside h
 
-  -- the code's test: b, of the row and the column in hand
-  module _ (row col : ℕ) (b : Bool) (er : row ≡ get_or order i 0 / w) (ec : col ≡ get_or order i 0 % w) (eb : b ≡ (not (on rows row) && not (on cols col))) where
-    is_free : both_free w rows cols (get_or order i 0) ≡ b
-    is_free = sym (eb ∙ rw (er, ec) refl)
+  so_far : Each (λ j. j < n * w) (take i order)
+  so_far = each_take (λ j. j < n * w) i order inside
 
+  held : p ≡ pairing_with w t
+  unfolding pairing_of
+  held = e
+
+  pairs_are : p.pairs ≡ filled 0 t
+  pairs_are = ap (λ (q : Pairing). q.pairs) held
+
+  used_is : p.used ≡ length t
+  used_is = ap (λ (q : Pairing). q.used) held
+
+  rows_are : p.rows ≡ marked (rows_of w t) none
+  rows_are = ap (λ (q : Pairing). q.rows) held
+
+  cols_are : p.cols ≡ marked (cols_of w t) none
+  cols_are = ap (λ (q : Pairing). q.cols) held
+
+  next : taken_of w (take (i + 1) order) ≡ t ++ cond (both_free w p.rows p.cols k) (k ∷ []) []
+  next = rw (add-one i, take-suc order i 0 h, rows_are, cols_are) (taken_more w (take i order) k none none)
+
+  module _ (row col : ℕ) (er : row ≡ k / w) (ec : col ≡ k % w) where
     -- a pair that is taken has room
-    pub room : b ≡ true → used < 64
-    room e =
-        let q = free_row (on rows (get_or order i 0 / w)) (on cols (get_or order i 0 % w)) (is_free ∙ e) in
+    pub room : on p.rows row ≡ false → p.used < 64
+    room f =
+        let q : on (marked (rows_of w t) none) (k / w) ≡ false = rw (er, rows_are) at f in
         let a = counted n (rows_of w t) (rows_fresh n w (take i order) n64 w64 so_far) (rows_inside n w (take i order) n64 w64 so_far) in
-        let c = count_room n (on (marked (rows_of w t) none)) (get_or order i 0 / w) (row_in (get_or order i 0) n w pair_in) (rw p.rows_are at q) in
-        let d = length-map t (λ k. k / w) in
-        let u = p.used_is in
+        let c = count_room n (on (marked (rows_of w t) none)) (k / w) (row_in k n w pair_in) q in
+        let d = length-map t (λ j. j / w) in
+        let u = used_is in
         omega arith
 
-    next : taken_of w (take (i + 1) order) ≡ t ++ cond b (get_or order i 0 ∷ []) []
-    next = rw (add-one i, take-suc order i 0 h, ← is_free, p.rows_are, p.cols_are) (taken_more w (take i order) (get_or order i 0) none none)
+    pub takes : (p' : Pairing) → on p.rows row ≡ false → on p.cols col ≡ false
+        → p' ≡ record { pairs = set p.pairs p.used k; used = p.used + 1; rows = set p.rows row true; cols = set p.cols col true } → p' ≡ pairing_of w (take (i + 1) order)
+    unfolding pairing_of
+    takes p' f g ep =
+        let one : taken_of w (take (i + 1) order) ≡ t ++ (k ∷ []) = next ∙ rw (← er, ← ec, f, g) refl in
+        let r = room f in
+        let u = used_is in
+        ep
+        ∙ ((λ j. record {
+          pairs = (let z : set p.pairs p.used k ≡ filled 0 (t ++ (k ∷ [])) = rw (pairs_are, u) (fill_one 0 t k (omega arith)) in z) j;
+          used = (let z : p.used + 1 ≡ length (t ++ (k ∷ [])) = omega (arith, length-append t (k ∷ [])) in z) j;
+          rows = (let z : set p.rows row true ≡ marked (rows_of w (t ++ (k ∷ []))) none = rw (er, rows_are, map-append) (sym (marked_more (rows_of w t) (k / w) none)) in z) j;
+          cols = (let z : set p.cols col true ≡ marked (cols_of w (t ++ (k ∷ []))) none = rw (ec, cols_are, map-append) (sym (marked_more (cols_of w t) (k % w) none)) in z) j;
+        })
+        ∙ ap (pairing_with w) (sym one))
 
-    pub takes : (pairs' : List ℕ) (rows' cols' : List Bool) (used' : ℕ) → b ≡ true → pairs' ≡ set pairs used (get_or order i 0)
-        → rows' ≡ set rows row true → cols' ≡ set cols col true → used' ≡ used + 1 → Taking w order pairs' rows' cols' used' (i + 1)
-    takes pairs' rows' cols' used' e ep erows ecols eu =
-        let k = get_or order i 0 in
-        let f : taken_of w (take (i + 1) order) ≡ t ++ (k ∷ []) = rw e at next in
-        let r = room e in
-        let u = p.used_is in
-        record {
-          within = omega arith;
-          pairs_are = ep ∙ rw (p.pairs_are, u, f) (fill_one 0 t k (omega arith));
-          used_is = eu ∙ rw f (omega (arith, length-append t (k ∷ [])));
-          rows_are = erows ∙ rw (er, p.rows_are, f, map-append) (sym (marked_more (rows_of w t) (k / w) none));
-          cols_are = ecols ∙ rw (ec, p.cols_are, f, map-append) (sym (marked_more (cols_of w t) (k % w) none));
-        }
+    -- its row is gone, or its column
+    skips : (p' : Pairing) → both_free w p.rows p.cols k ≡ false → p' ≡ p → p' ≡ pairing_of w (take (i + 1) order)
+    unfolding pairing_of
+    skips p' f ep = ep ∙ held ∙ ap (pairing_with w) (sym (append-nil t) ∙ sym (rw f at next))
 
-    pub skips : (pairs' : List ℕ) (rows' cols' : List Bool) (used' : ℕ) → b ≡ false → pairs' ≡ pairs → rows' ≡ rows → cols' ≡ cols → used' ≡ used
-        → Taking w order pairs' rows' cols' used' (i + 1)
-    skips pairs' rows' cols' used' e ep erows ecols eu =
-        let f : taken_of w (take (i + 1) order) ≡ t = rw e at next ∙ append-nil t in
-        record {
-          within = omega arith;
-          pairs_are = ep ∙ rw f p.pairs_are;
-          used_is = eu ∙ rw f p.used_is;
-          rows_are = erows ∙ rw f p.rows_are;
-          cols_are = ecols ∙ rw f p.cols_are;
-        }
+    pub row_gone : (p' : Pairing) → on p.rows row ≡ true → p' ≡ p → p' ≡ pairing_of w (take (i + 1) order)
+    row_gone p' f = skips p' (rw (← er, f) refl)
+
+    pub col_gone : (p' : Pairing) → on p.rows row ≡ false → on p.cols col ≡ true → p' ≡ p → p' ≡ pairing_of w (take (i + 1) order)
+    col_gone p' f g = skips p' (rw (← er, ← ec, f, g) refl)

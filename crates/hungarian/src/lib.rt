@@ -8,15 +8,6 @@ ghost use Rattle.hungarian.specs.Solved.{Solved};
 
 use search::Counts;
 
-fn larger_side(rows: usize, cols: usize) -> usize
-    ensures { result ≡ max rows cols }
-{
-    if rows < cols {
-        return cols;
-    }
-    rows
-}
-
 // Steps A to G, in a lent square of side n that holds zeros.
 fn steps(
     cost: &[f64],
@@ -37,8 +28,23 @@ fn steps(
     search::search(c, n, row_match, &mut col_match)
 }
 
-// Steps A to G: each row's column, which is no real one from the number of columns on, and the counts of steps G and E.
-// (Three sizes of square: to clear 4,096 places costs more than all else of a small matrix.)
+// Steps A to G, in a square cut from `PLACES` zeros.
+fn in_places<const PLACES: usize>(
+    cost: &[f64],
+    rows: usize,
+    cols: usize,
+    n: usize,
+    row_match: &mut [usize; 64],
+) -> Counts
+    requires { (rows ≤ 64) × (cols ≤ 64) × (length cost.now ≡ rows * cols) × (n ≡ max rows cols) × (n * 64 ≤ PLACES) × (PLACES ≤ 4096) × (row_match.old ≡ replicate 64 64) }
+    ensures { Solved cost.now rows cols result.corrections result.paths row_match.new }
+{
+    let mut c = [0.0f64; PLACES];
+    steps(cost, rows, cols, n, &mut c[..n * 64], row_match)
+}
+
+/// Steps A to G: each row's column, which is no real one from the number of columns on, and the counts of steps G and E.
+/// (Three sizes of square: to clear 4,096 places costs more than all else of a small matrix.)
 pub fn hungarian_algorithm(
     cost: &[f64],
     rows: usize,
@@ -48,16 +54,10 @@ pub fn hungarian_algorithm(
     requires { (rows ≤ 64) × (cols ≤ 64) × (length cost.now ≡ rows * cols) × (row_match.old ≡ replicate 64 64) }
     ensures { Solved cost.now rows cols result.corrections result.paths row_match.new }
 {
-    let n = larger_side(rows, cols);
-    let places = n * 64;
-    if n <= 8 {
-        let mut small = [0.0f64; 512];
-        return steps(cost, rows, cols, n, &mut small[..places], row_match);
+    let n = rows.max(cols);
+    match n {
+        0..=8 => in_places::<512>(cost, rows, cols, n, row_match),
+        9..=32 => in_places::<2048>(cost, rows, cols, n, row_match),
+        _ => in_places::<4096>(cost, rows, cols, n, row_match),
     }
-    if n <= 32 {
-        let mut middle = [0.0f64; 2048];
-        return steps(cost, rows, cols, n, &mut middle[..places], row_match);
-    }
-    let mut large = [0.0f64; 4096];
-    steps(cost, rows, cols, n, &mut large[..places], row_match)
 }

@@ -71,9 +71,6 @@ matrix_more m gt pred xs out last i at k e o h l =
 pub row_room : (i rows cols len : ℕ) → i < rows → rows * cols ≤ len → i * cols + cols ≤ len
 row_room i rows cols len h r = le_trans (le_of_eq (sym (suc-mul i cols))) (le_trans (mul-le-mul_right cols h) r)
 
-pub next_at : (i cols : ℕ) → i * cols + cols ≡ (i + 1) * cols
-next_at i cols = rw add-one (sym (suc-mul i cols))
-
 -- ---- at a refusal
 pub kept : (m : Measure) (r : ℕ) (gt pred out : List Float) → (r ≡ 0 → ⊥) → out ≡ matrix_after m r gt pred out
 unfolding matrix_after

@@ -2,9 +2,12 @@
 #![tactic(auto)]
 
 ghost use Rattle.std.specs.Prelude.{◌≡◌, length};
+ghost use Rattle.refusals.specs.Refusals.{outcome_of};
 ghost use Rattle.solver_flat.specs.Flat.{Handed};
 ghost use Rattle.matrix.specs.Matrix.{distance_matrix_no, iou_matrix_no, matrix_after};
 ghost use Rattle.matrix.specs.declared.Measure.TheVariants.{Away, Shared};
+
+use refusals::Refusal;
 
 #[unsafe(no_mangle)]
 pub extern "C" fn mot_compute_iou_distance_matrix(
@@ -26,8 +29,30 @@ pub extern "C" fn mot_iou_matrix(boxes_a: &[f64], boxes_b: &[f64], out: &mut [f6
     matrix::iou_matrix(boxes_a, boxes_b, out)
 }
 
-// The counts and lists in 261 places of the lent run.
+// The counts and lists in 261 places of the lent run, which stays as it is at a refusal.
 #[tactic(auto, using(optimize::proofs::Number::fits, solver_flat::proofs::Border::handed_refused, solver_flat::proofs::Border::handed_short, solver_flat::proofs::Border::handed_alone, solver_flat::proofs::Border::handed_found))]
+fn write_answer(
+    cost: &[f64],
+    rows: usize,
+    cols: usize,
+    max_cost: f64,
+    out: &mut [usize],
+) -> Result<(), Refusal>
+    ensures { Handed cost.now rows cols max_cost (outcome_of result) out.old out.new }
+{
+    optimize::check_sizes(cost.len(), rows, cols)?;
+    if out.len() < 261 {
+        return Err(Refusal::NoRoom);
+    }
+    if cols == 0 {
+        solver_flat::write_rows_alone(rows, out);
+    } else {
+        solver_flat::write_found(cost, rows, cols, max_cost, out);
+    }
+    Ok(())
+}
+
+/// The counts and lists of the search's answer, in 261 places of the lent run.
 #[unsafe(no_mangle)]
 pub extern "C" fn mot_linear_sum_assignment(
     cost: &[f64],
@@ -38,17 +63,5 @@ pub extern "C" fn mot_linear_sum_assignment(
 ) -> u32
     ensures { Handed cost.now rows cols max_cost result out.old out.new }
 {
-    let number = optimize::assignment_no(cost.len(), rows, cols);
-    if number != 0 {
-        return number;
-    }
-    if out.len() < 261 {
-        return 6;
-    }
-    if cols == 0 {
-        solver_flat::write_rows_alone(rows, out);
-        return 0;
-    }
-    solver_flat::write_found(cost, rows, cols, max_cost, out);
-    0
+    refusals::outcome(write_answer(cost, rows, cols, max_cost, out))
 }

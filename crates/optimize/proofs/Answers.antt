@@ -9,10 +9,13 @@ use lib.ListN.{length}
 use lib.Ieee.{Float}
 use Rattle.square.proofs.Index.{eq-or-not}
 use Rattle.start.specs.Steps.{start_of}
+use Rattle.refusals.specs.Refusals.{number_of}
+use Rattle.refusals.specs.declared.Refusal.{Refusal}
 use Rattle.search.specs.Run.{pairs, sum_from}
 use Rattle.optimize.specs.declared.AssignmentResult.{AssignmentResult}
 use Rattle.optimize.specs.Answer.{assignment_no, Solved, Answered, refused, no_rows, no_columns, found, result_of, empty_of, rows_alone}
 use Rattle.optimize.proofs.Number.{fits}
+use Rattle.optimize.proofs.Refused.{not_zero}
 use Rattle.hungarian.proofs.Solve.{solved_one, solved_exists, solved_bounded}
 
 module _ (m : List Float) (h w : ℕ) (limit : Float) where
@@ -70,15 +73,15 @@ module _ (m : List Float) (h w : ℕ) (limit : Float) where
   answer_bounded (found e a b s) = let f = fits (length m) h w e in solved_bounded m h w f.0 f.1 s
 
 -- ---- what each return of the code hands on
-module _ {m : List Float} {h w : ℕ} {limit : Float} {r : AssignmentResult} (n : ℕ) (is : n ≡ assignment_no (length m) h w) where
-  pub refused_at : (n ≡ 0 → ⊥) → r ≡ empty_of n → Answered m h w limit r
-  refused_at x e = subst (Answered m h w limit) (sym (e ∙ ap empty_of is)) (refused (λ z. x (is ∙ z)))
+module _ {m : List Float} {h w : ℕ} {limit : Float} {r : AssignmentResult} where
+  pub refused_at : (x : Refusal) → number_of x ≡ assignment_no (length m) h w → r ≡ empty_of (number_of x) → Answered m h w limit r
+  refused_at x is e = subst (Answered m h w limit) (sym (e ∙ ap empty_of is)) (refused (λ z. not_zero x (is ∙ z)))
 
-  pub no_rows_at : n ≡ 0 → h ≡ 0 → r ≡ empty_of 0 → Answered m h w limit r
-  no_rows_at z y e = subst (Answered m h w limit) (sym e) (no_rows (sym is ∙ z) y)
+  pub no_rows_at : 0 ≡ assignment_no (length m) h w → h ≡ 0 → r ≡ empty_of 0 → Answered m h w limit r
+  no_rows_at is y e = subst (Answered m h w limit) (sym e) (no_rows (sym is) y)
 
-  pub no_columns_at : n ≡ 0 → 0 < h → w ≡ 0 → r ≡ rows_alone h → Answered m h w limit r
-  no_columns_at z a y e = subst (Answered m h w limit) (sym e) (no_columns (sym is ∙ z) a y)
+  pub no_columns_at : 0 ≡ assignment_no (length m) h w → 0 < h → w ≡ 0 → r ≡ rows_alone h → Answered m h w limit r
+  no_columns_at is a y e = subst (Answered m h w limit) (sym e) (no_columns (sym is) a y)
 
-  pub found_at : n ≡ 0 → 0 < h → 0 < w → {c p : ℕ} {rows : List ℕ} → Solved m h w c p rows → r ≡ result_of m h w limit rows c p → Answered m h w limit r
-  found_at z a b s e = subst (Answered m h w limit) (sym e) (found (sym is ∙ z) a b s)
+  pub found_at : 0 ≡ assignment_no (length m) h w → 0 < h → 0 < w → {c p : ℕ} {rows : List ℕ} → Solved m h w c p rows → r ≡ result_of m h w limit rows c p → Answered m h w limit r
+  found_at is a b s e = subst (Answered m h w limit) (sym e) (found (sym is) a b s)

@@ -1,4 +1,5 @@
 pub mod Number
+pub mod Refused
 pub mod Listing
 pub mod Answers
 pub mod Names

@@ -19,7 +19,7 @@ use Rattle.square.proofs.Gather.{gather_none, gather_same, fill_yes, fill_no, co
 use Rattle.start.specs.Steps.{entry}
 use Rattle.optimize.specs.declared.Assignment.{Assignment}
 use Rattle.optimize.specs.declared.AssignmentResult.{AssignmentResult}
-use Rattle.optimize.specs.Answer.{passes_of, keeps, taken, pair_of, no_pair, result_of, rows_alone}
+use Rattle.optimize.specs.Answer.{passes_of, keeps, taken, pair_of, no_pair, result_of, empty_of, rows_alone}
 use Rattle.optimize.specs.Inner.{Listed}
 
 module _ (m : List Float) (w : ℕ) (limit : Float) (rows : List ℕ) where
@@ -93,10 +93,6 @@ listed_at {m} {w} {limit} {rows} {k} {pairs} {pairs'} {used} {used'} {R} {R'} {C
     subst (λ (x : List Assignment). Listed m w limit rows k x used' R' C') (sym r) (subst (λ (x : ℕ). Listed m w limit rows k pairs x R' C') (sym s)
     (subst (λ (x : List Bool). Listed m w limit rows k pairs used x C') (sym p) (subst (λ (x : List Bool). Listed m w limit rows k pairs used R x) (sym q) v)))
 
-pub listed_end : {m : List Float} {w : ℕ} {limit : Float} {rows : List ℕ} {k h : ℕ} {pairs : List Assignment} {used : ℕ} {R C : List Bool}
-    → k ≡ h → Listed m w limit rows k pairs used R C → Listed m w limit rows h pairs used R C
-listed_end {m} {w} {limit} {rows} {k} {h} {pairs} {used} {R} {C} e v = subst (λ (x : ℕ). Listed m w limit rows x pairs used R C) e v
-
 -- ---- the whole result, from the pairs and what the marks leave
 module _ (m : List Float) (w : ℕ) (limit : Float) (rows : List ℕ) (h : ℕ) (pairs : List Assignment) (used : ℕ) (R C : List Bool) (v : Listed m w limit rows h pairs used R C) where
   rows_same : (i : ℕ) → i < h → not (on R i) ≡ not (keeps m w limit rows i)
@@ -137,3 +133,9 @@ alone_is h places used p = λ i. record {
   corrections = 0;
   paths = 0;
 }
+
+pub alone_of : (h : ℕ) (places : List ℕ) (used : ℕ) (r : AssignmentResult) → r ≡ empty_of 0 → Picked false (replicate 64 false) h places used
+    → record r { unmatched_rows = places; num_unmatched_rows = used } ≡ rows_alone h
+unfolding empty_of
+alone_of h places used r e p =
+    ap (λ (x : AssignmentResult). record x { unmatched_rows = places; num_unmatched_rows = used }) e ∙ alone_is h places used p

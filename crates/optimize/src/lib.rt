@@ -5,15 +5,25 @@
 ghost use Rattle.std.specs.Prelude.{◌≡◌, false, ◌+◌, ◌*◌, ◌≤◌, length, replicate};
 ghost use Rattle.optimize.specs.Answer.{assignment_no, passes_of, result_of, empty_of, rows_alone, Answered};
 ghost use Rattle.optimize.specs.Inner.{Listed};
+ghost use Rattle.refusals.specs.Refusals.{outcome_of};
 
+use refusals::Refusal;
 use search::Counts;
 
+/// A row and the column that it got.
 #[derive(Clone, Copy)]
 pub struct Assignment {
     pub row_idx: usize,
     pub col_idx: usize,
 }
 
+const NO_PAIR: Assignment = Assignment {
+    row_idx: 0,
+    col_idx: 0,
+};
+
+/// What a search came to: the pairs that pass, the rows and columns in none, and how many corrections and paths it took.
+// Kept: a refusal is a number beside the state at each public call, for C callers too.
 #[derive(Clone, Copy)]
 pub struct AssignmentResult {
     pub number: u32,
@@ -27,77 +37,76 @@ pub struct AssignmentResult {
     pub paths: usize,
 }
 
-// Document 01's number: 2 for too many rows or columns, 3 for a length that is not theirs, or 0 rows with columns.
-pub fn assignment_no(len: usize, rows: usize, cols: usize) -> u32
-    ensures { result ≡ assignment_no len rows cols }
+/// Whether a matrix of `rows` by `cols`, given as a run of `len` costs, is one that the search takes.
+/// `TooMany` for more than 64 rows or columns, `Misfit` for a length that is not theirs, or no rows with columns.
+#[tactic(auto, using(std::proofs::lemmas::Bool::Decides::nat_tests), unfolding(crate::specs::Answer::assignment_no))]
+pub fn check_sizes(len: usize, rows: usize, cols: usize) -> Result<(), Refusal>
+    ensures { outcome_of result ≡ assignment_no len rows cols }
 {
-    if 64 < rows {
-        return 2;
+    if rows > 64 || cols > 64 {
+        return Err(Refusal::TooMany);
     }
-    if 64 < cols {
-        return 2;
+    if rows == 0 && cols > 0 {
+        return Err(Refusal::Misfit);
     }
-    if rows == 0 {
-        if 0 < cols {
-            return 3;
-        }
+    if len == rows * cols {
+        Ok(())
+    } else {
+        Err(Refusal::Misfit)
     }
-    if len == rows * cols { 0 } else { 3 }
 }
 
-// Whether a row and a column are a real pair whose cost, as given, is at most max_cost.
+/// Whether a row and a column are a real pair whose cost, as given, is at most `max_cost`.
+#[tactic(auto, using(std::proofs::lemmas::Bool::Decides::nat_tests), unfolding(crate::specs::Answer::passes_of))]
 pub fn passes(cost: &[f64], cols: usize, max_cost: f64, row: usize, col: usize) -> bool
     requires { row * cols + cols ≤ length cost.now }
     ensures { result ≡ passes_of cost.now cols max_cost row col }
 {
-    if col < cols {
-        return cost[row * cols + col] <= max_cost;
-    }
-    false
+    col < cols && cost[row * cols + col] <= max_cost
 }
 
+// The pairs that pass, in the first `used` places, and marks at their rows and columns.
 #[derive(Clone, Copy)]
-pub struct Kept {
-    pub assignments: [Assignment; 64],
-    pub used: usize,
+struct Kept {
+    assignments: [Assignment; 64],
+    used: usize,
+    rows: [bool; 64],
+    cols: [bool; 64],
 }
 
-// The pairs that pass, by rising row, with marks at their rows and columns.
+// The pairs that pass, by rising row.
 fn keep_pairs(
     cost: &[f64],
     rows: usize,
     cols: usize,
     max_cost: f64,
     row_match: &[usize; 64],
-    matched_rows: &mut [bool; 64],
-    matched_cols: &mut [bool; 64],
 ) -> Kept
-    requires { (rows ≤ 64) × (cols ≤ 64) × (length cost.now ≡ rows * cols) × (matched_rows.old ≡ replicate 64 false) × (matched_cols.old ≡ replicate 64 false) }
-    ensures { Listed cost.now cols max_cost row_match.now rows result.assignments result.used matched_rows.new matched_cols.new }
+    requires { (rows ≤ 64) × (cols ≤ 64) × (length cost.now ≡ rows * cols) }
+    ensures { Listed cost.now cols max_cost row_match.now rows result.assignments result.used result.rows result.cols }
 {
-    let mut assignments = [Assignment {
-        row_idx: 0,
-        col_idx: 0,
-    }; 64];
-    let mut used = 0usize;
-    let mut row = 0usize;
-    while row < rows {
+    let mut kept = Kept {
+        assignments: [NO_PAIR; 64],
+        used: 0,
+        rows: [false; 64],
+        cols: [false; 64],
+    };
+    for row in 0..rows {
         let col = row_match[row];
         if passes(cost, cols, max_cost, row, col) {
-            assignments[used] = Assignment {
+            kept.assignments[kept.used] = Assignment {
                 row_idx: row,
                 col_idx: col,
             };
-            used += 1;
-            matched_rows[row] = true;
-            matched_cols[col] = true;
+            kept.used += 1;
+            kept.rows[row] = true;
+            kept.cols[col] = true;
         }
-        row += 1;
     }
-    Kept { assignments, used }
+    kept
 }
 
-// What of a matching passes max_cost, and what is left.
+// What of a matching passes `max_cost`, and what is left.
 fn filtered(
     cost: &[f64],
     rows: usize,
@@ -109,25 +118,14 @@ fn filtered(
     requires { (rows ≤ 64) × (cols ≤ 64) × (length cost.now ≡ rows * cols) }
     ensures { result ≡ result_of cost.now rows cols max_cost row_match.now found.corrections found.paths }
 {
-    let mut matched_rows = [false; 64];
-    let mut matched_cols = [false; 64];
-    let kept = keep_pairs(
-        cost,
-        rows,
-        cols,
-        max_cost,
-        row_match,
-        &mut matched_rows,
-        &mut matched_cols,
-    );
+    let kept = keep_pairs(cost, rows, cols, max_cost, row_match);
     let mut unmatched_rows = [0usize; 64];
-    let num_unmatched_rows = square::pick(&matched_rows, rows, false, &mut unmatched_rows);
+    let num_unmatched_rows = square::pick(&kept.rows, rows, false, &mut unmatched_rows);
     let mut unmatched_cols = [0usize; 64];
-    let num_unmatched_cols = square::pick(&matched_cols, cols, false, &mut unmatched_cols);
-    let assignments = kept.assignments;
+    let num_unmatched_cols = square::pick(&kept.cols, cols, false, &mut unmatched_cols);
     AssignmentResult {
         number: 0,
-        assignments,
+        assignments: kept.assignments,
         num_assignments: kept.used,
         unmatched_rows,
         num_unmatched_rows,
@@ -139,19 +137,17 @@ fn filtered(
 }
 
 // A number, with zeros everywhere else.
+#[tactic(auto, unfolding(crate::specs::Answer::empty_of))]
 fn empty(number: u32) -> AssignmentResult
     ensures { result ≡ empty_of number }
 {
     AssignmentResult {
         number,
-        assignments: [Assignment {
-            row_idx: 0,
-            col_idx: 0,
-        }; 64],
+        assignments: [NO_PAIR; 64],
         num_assignments: 0,
-        unmatched_rows: [0usize; 64],
+        unmatched_rows: [0; 64],
         num_unmatched_rows: 0,
-        unmatched_cols: [0usize; 64],
+        unmatched_cols: [0; 64],
         num_unmatched_cols: 0,
         corrections: 0,
         paths: 0,
@@ -163,26 +159,16 @@ fn rows_alone(rows: usize) -> AssignmentResult
     requires { rows ≤ 64 }
     ensures { result ≡ rows_alone rows }
 {
-    let marks = [false; 64];
     let mut unmatched_rows = [0usize; 64];
-    let num_unmatched_rows = square::pick(&marks, rows, false, &mut unmatched_rows);
+    let num_unmatched_rows = square::pick(&[false; 64], rows, false, &mut unmatched_rows);
     AssignmentResult {
-        number: 0,
-        assignments: [Assignment {
-            row_idx: 0,
-            col_idx: 0,
-        }; 64],
-        num_assignments: 0,
         unmatched_rows,
         num_unmatched_rows,
-        unmatched_cols: [0usize; 64],
-        num_unmatched_cols: 0,
-        corrections: 0,
-        paths: 0,
+        ..empty(0)
     }
 }
 
-// The public call: it asks nothing of its caller.
+/// The public call: it asks nothing of its caller.
 pub fn linear_sum_assignment(
     cost: &[f64],
     rows: usize,
@@ -191,9 +177,8 @@ pub fn linear_sum_assignment(
 ) -> AssignmentResult
     ensures { Answered cost.now rows cols max_cost result }
 {
-    let number = assignment_no(cost.len(), rows, cols);
-    if number != 0 {
-        return empty(number);
+    if let Err(refusal) = check_sizes(cost.len(), rows, cols) {
+        return empty(refusal.number());
     }
     if rows == 0 {
         return empty(0);

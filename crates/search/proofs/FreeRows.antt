@@ -1,65 +1,58 @@
 -- Step D's marks of the free rows: the loop's invariant. Assumes nothing.
-use Prim.Native.Nat.{ℕ, ◌+◌, ◌<◌, ◌≤◌}
-use mathlib.Core.Path.{◌≡◌, sym, ◌∙◌}
-use mathlib.Core.Bool.{Bool, true, false, true≢false, not}
-use mathlib.Core.List.{List}
+use Prim.Native.Nat.{ℕ, suc, ◌+◌, ◌<◌, ◌≤◌}
+use mathlib.Core.Path.{◌≡◌, sym, ap, ◌∙◌}
+use mathlib.Core.Bool.{Bool, true, false, true≢false, not, ◌&&◌}
+use mathlib.Core.List.{List, [], ◌∷◌}
+use mathlib.Core.Logic.{⊎_elim}
 use native.Mathlib.Omega.{arith}
-use native.Mathlib.Nat.{not-suc-le-zero}
-use lib.ListN.{length, get_or, set, length-set}
-use lib.Dec.{leb}
-use lib.Seq.{get_or-set_same, get_or-set_other}
+use lib.ListN.{length, get_or, set, take}
+use lib.Dec.{leb, ltb}
+use lib.Seq.{get_or-take, length-take-le, get_or-set_same, get_or-set_other}
 use borrow.Author.Tests.{lt-ltb, le-ltb, le-leb, lt-leb}
+use Rattle.std.specs.List.{list_all}
+use Rattle.std.proofs.lemmas.List.Folds.{list_all_at}
 use Rattle.square.specs.Index.{on}
-use Rattle.square.proofs.Index.{below_more}
-use Rattle.square.proofs.Truth.{not_both, not_of_true, not_of_false}
+use Rattle.square.proofs.Index.{below_more, lt-or-ge}
+use Rattle.square.proofs.Truth.{dec, not_of_true, not_of_false}
 use Rattle.paths.specs.State.{paired}
-use Rattle.search.specs.Inner.{Freed}
 
-module _ (n : ℕ) (n64 : n ≤ 64) (rows : List ℕ) where
-  pub record FreeInv (F : List Bool) (some : Bool) (i : ℕ) : Type 0 where
-    pub at_most : i ≤ n
-    pub len : length F ≡ 64
-    pub marks : (k : ℕ) → k < i → on F k ≡ not (paired n rows k)
-    pub one : some ≡ true → (k : ℕ) × (k < n) × (paired n rows k ≡ false)
-    pub all : some ≡ false → (k : ℕ) → k < i → paired n rows k ≡ true
+-- the first i rows are marked where they are free
+abbrev pub Marks : ℕ → List ℕ → List Bool → ℕ → Type 0
+Marks n rows F i = (k : ℕ) → k < i → on F k ≡ not (paired n rows k)
 
-  pub begin : (F : List Bool) → length F ≡ 64 → FreeInv F false 0
-  begin F e = record {
-    at_most = omega arith;
-    len = e;
-    marks = λ k l. absurd (not-suc-le-zero l);
-    one = λ t. absurd (true≢false (sym t));
-    all = λ _ k l. absurd (not-suc-le-zero l);
-  }
+pub marks_more : (n : ℕ) (rows : List ℕ) (F : List Bool) (i : ℕ) → i < length F → Marks n rows F i → Marks n rows (set F i (leb n (get_or rows i 0))) (i + 1)
+marks_more n rows F i l v k lk = below_more i (λ k. on (set F i (leb n (get_or rows i 0))) k ≡ not (paired n rows k))
+    (λ k lk. get_or-set_other F i k (leb n (get_or rows i 0)) false (λ q. omega arith) ∙ v k lk)
+    (get_or-set_same F i (leb n (get_or rows i 0)) false l ∙ here) k (omega arith)
+  where
+    here : leb n (get_or rows i 0) ≡ not (paired n rows i)
+    here = ⊎_elim
+        (λ (lt : get_or rows i 0 < n). lt-leb n (get_or rows i 0) lt ∙ sym (not_of_true (lt-ltb (get_or rows i 0) n lt)))
+        (λ (le : n ≤ get_or rows i 0). le-leb n (get_or rows i 0) le ∙ sym (not_of_false (le-ltb (get_or rows i 0) n le)))
+        (lt-or-ge (get_or rows i 0) n)
 
-  module _ (F : List Bool) (some : Bool) (i : ℕ) (v : FreeInv F some i) (l : i < n) where
-    marks_more : (x : Bool) → x ≡ not (paired n rows i) → (k : ℕ) → k < i + 1 → on (set F i x) k ≡ not (paired n rows k)
-    marks_more x e k lk = below_more i (λ k. on (set F i x) k ≡ not (paired n rows k))
-        (λ k lk. get_or-set_other F i k x false (λ q. omega arith) ∙ v.marks k lk) (get_or-set_same F i x false (omega (arith, v.len)) ∙ e) k (omega arith)
+-- the test of all rows
+fails : (p : ℕ → Bool) (xs : List ℕ) → list_all p xs ≡ false → (i : ℕ) × (i < length xs) × (p (get_or xs i 0) ≡ false)
+fails p [] e = absurd (true≢false e)
+fails p (x ∷ xs) e = ⊎_elim
+    (λ (t : p x ≡ true). let w = fails p xs (and_true_left (p x) (list_all p xs) t e) in (suc w.0, omega (arith, w.1), w.2))
+    (λ (f : p x ≡ false). (0, omega arith, f))
+    (dec (p x))
+  where
+    and_true_left : (a b : Bool) → a ≡ true → (a && b) ≡ false → b ≡ false
+    and_true_left true b t e = e
+    and_true_left false b t e = absurd (true≢false (sym t))
 
-    module _ (some' : Bool) where
-      pub free : n ≤ get_or rows i 0 → some' ≡ true → FreeInv (set F i (leb n (get_or rows i 0))) some' (i + 1)
-      free le t = record {
-        at_most = omega arith;
-        len = length-set F i (leb n (get_or rows i 0)) ∙ v.len;
-        marks = marks_more (leb n (get_or rows i 0)) (le-leb n (get_or rows i 0) le ∙ sym (not_of_false (le-ltb (get_or rows i 0) n le)));
-        one = λ _. (i, l, le-ltb (get_or rows i 0) n le);
-        all = λ f. not_both some' t f;
-      }
+module _ (n : ℕ) (rows : List ℕ) (le : n ≤ length rows) where
+  pub one_is_not : list_all (λ partner. ltb partner n) (take n rows) ≡ false → (i : ℕ) × (i < n) × (paired n rows i ≡ false)
+  one_is_not e =
+      let w = fails (λ partner. ltb partner n) (take n rows) e in
+      let l : w.0 < n = omega (arith, w.1, length-take-le n rows le) in
+      (w.0, l, ap (λ (partner : ℕ). ltb partner n) (sym (get_or-take n rows w.0 0 l)) ∙ w.2)
 
-      pub taken : get_or rows i 0 < n → some' ≡ some → FreeInv (set F i (leb n (get_or rows i 0))) some' (i + 1)
-      taken lt e = record {
-        at_most = omega arith;
-        len = length-set F i (leb n (get_or rows i 0)) ∙ v.len;
-        marks = marks_more (leb n (get_or rows i 0)) (lt-leb n (get_or rows i 0) lt ∙ sym (not_of_true (lt-ltb (get_or rows i 0) n lt)));
-        one = λ t. v.one (sym e ∙ t);
-        all = λ f k lk. below_more i (λ k. paired n rows k ≡ true) (v.all (sym e ∙ f)) (lt-ltb (get_or rows i 0) n lt) k (omega arith);
-      }
-
-  pub finish : (F : List Bool) (some : Bool) (i : ℕ) → n ≤ i → FreeInv F some i → Freed some n rows F
-  finish F some i le v = record {
-    len = v.len;
-    marks = λ k l. v.marks k (omega arith);
-    some = v.one;
-    all = λ f k l. v.all f k (omega arith);
-  }
+  pub all_are : list_all (λ partner. ltb partner n) (take n rows) ≡ true → (i : ℕ) → i < n → paired n rows i ≡ true
+  all_are e i l = ⊎_elim
+      (λ (t : paired n rows i ≡ true). t)
+      (λ (f : paired n rows i ≡ false). absurd (true≢false (sym e ∙ list_all_at (λ partner. ltb partner n) (take n rows) i 0 (omega (arith, length-take-le n rows le))
+      (ap (λ (partner : ℕ). ltb partner n) (get_or-take n rows i 0 l) ∙ f))))
+      (dec (paired n rows i))

@@ -1,14 +1,16 @@
 -- Laws of marks, and of what the two routines of step F add to them. Assumes nothing.
-use Prim.Native.Nat.{ℕ, zero, suc, ◌+◌, ◌<◌, ◌≤◌}
+use Prim.Native.Nat.{ℕ, zero, suc, ◌+◌, ◌-◌, ◌*◌, ◌<◌, ◌≤◌}
 use mathlib.Core.Path.{◌≡◌, refl, sym, ap, ◌∙◌, subst}
 use mathlib.Core.Bool.{Bool, true, false, true≢false}
 use mathlib.Core.List.{List, [], ◌∷◌}
 use mathlib.Core.Logic.{◌⊎◌, inl, inr, ⊎_elim}
 use native.Mathlib.Omega.{arith}
 use native.Mathlib.Nat.{le_of_suc-le-suc, not-suc-le-zero}
-use lib.ListN.{length, get_or, set, length-set}
-use lib.Seq.{get_or-set_same}
-use lib.Ieee.{Float}
+use lib.ListN.{drop, length, length-take, get_or, set, take, length-set}
+use lib.Seq.{get_or-set_same, get_or-take}
+use lib.Ieee.{Float, nan}
+use Rattle.std.proofs.lemmas.List.{get_or-drop}
+use Rattle.floats.specs.Float.{is_zero}
 use Rattle.square.specs.Index.{on}
 use Rattle.square.specs.Square.{zero_at}
 use Rattle.square.proofs.Index.{below_more}
@@ -204,3 +206,18 @@ module _ (c : List Float) (n : ℕ) (cols : List ℕ) where
 
   pub row_at : (row col : ℕ) (R₀ C₀ R C R' C' : List Bool) → R' ≡ R → C' ≡ C → RowInv row R₀ C₀ R C col → RowInv row R₀ C₀ R' C' col
   row_at row col R₀ C₀ R C R' C' p q v = subst (λ (r : List Bool). RowInv row R₀ C₀ r C' col) (sym p) (subst (λ (d : List Bool). RowInv row R₀ C₀ R d col) (sym q) v)
+
+-- ---- the first n entries of a row, in a run of their own
+abbrev pub entries : List Float → ℕ → ℕ → List Float
+entries c n row = take (row * 64 + n - row * 64) (drop (row * 64) c)
+
+row_long : (row n : ℕ) → row * 64 + n - row * 64 ≡ n
+row_long row n = omega arith
+
+-- a turn of a loop over them stands at a column below n
+pub in_row : (c : List Float) (n row col : ℕ) → row < n → n * 64 ≤ length c → col < length (entries c n row) → col < n
+in_row c n row col r fits l = omega (arith, length-take (row * 64 + n - row * 64) (drop (row * 64) c), row_long row n)
+
+pub zero_here : (c : List Float) (n row col : ℕ) → col < n → (b b' : Bool) → b ≡ is_zero (get_or (entries c n row) col nan) → b ≡ b' → zero_at c row col ≡ b'
+unfolding zero_at
+zero_here c n row col l b b' e f = sym (e ∙ ap is_zero (rw (row_long row n) (get_or-take n (drop (row * 64) c) col nan l ∙ get_or-drop (row * 64) c col nan))) ∙ f

@@ -1,11 +1,13 @@
 -- The outer loop and the loop of corrections: their invariants, and what a turn does. Assumes nothing.
 use Prim.Native.Nat.{ℕ, suc, ◌+◌, ◌<◌, ◌≤◌}
 use mathlib.Core.Path.{◌≡◌, refl, sym, ap, ◌∙◌, subst}
-use mathlib.Core.Bool.{Bool, true, false}
+use mathlib.Core.Bool.{Bool, true, false, true≢false}
 use mathlib.Core.List.{List}
 use mathlib.Core.Logic.{inl, inr}
 use native.Mathlib.Omega.{arith}
 use lib.Ieee.{Float}
+use Rattle.std.proofs.Common.{Option, None, Some, MatchOption}
+use Rattle.std.specs.Option.{is_some}
 use Rattle.paths.specs.State.{Ok, State, state, paired}
 use Rattle.paths.specs.Path.{Path}
 use Rattle.paths.proofs.PathLaws.{path_ok}
@@ -89,6 +91,11 @@ module _ (n : ℕ) (n64 : n ≤ 64) (s₀ : State) (c : List Float) (rows cols :
 
     pub stuck_end : b ≡ true → Run n s₀ (k + j) p (state c' rows cols)
     stuck_end e = ends n n64 s₀ (state c' rows cols) (k + j) p corrs_again (inr (subst (λ (x : Bool). CorrsEnd x n j (state c' rows cols)) e made.end))
+
+-- no free column was met
+pub none_met : (P : Type 0) (Q : ℕ → Type 0) (r : Option ℕ) → is_some r ≡ false → MatchOption r P Q → P
+none_met P Q None e h = h
+none_met P Q (Some row) e h = absurd (true≢false e)
 
 -- ---- the turns of the corrections
 pub record CorrInv (n : ℕ) (c₀ : List Float) (rows cols : List ℕ) (c : List Float) (R C : List Bool) (times : ℕ) : Type 0 where

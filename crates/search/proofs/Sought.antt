@@ -23,7 +23,7 @@ use Rattle.search.proofs.NoPath.{reached_paired}
 use Rattle.search.proofs.ReachOf.{clear}
 
 -- ---- from no marks
-module _ (n : ℕ) (c : List Float) (rows cols : List ℕ) (T : Tables n rows cols) (b : Bool) (F : List Bool) (free : Freed b n rows F) where
+module _ (n : ℕ) (c : List Float) (rows cols : List ℕ) (T : Tables n rows cols) (F : List Bool) (free : Freed n rows F) where
   free_on : (i : ℕ) → i < n → paired n rows i ≡ false → on F i ≡ true
   free_on i l f = free.marks i l ∙ not_of_false f
 
@@ -55,8 +55,8 @@ module _ (n : ℕ) (c : List Float) (rows cols : List ℕ) (T : Tables n rows co
         hit_in = leads n (state c rows cols) T k l f m.R₁ m.C₁ R C (closed k le m.R₁ m.C₁ m.before) (all_paired k le m.R₁ m.C₁ m.before) m.least m.met;
       }
 
-  pub seek_none : (R C : List Bool) → b ≡ true → Looked n c n cols F clear clear R C → Blocked n (state c rows cols) R C
-  seek_none R C e v = let w = free.some e in record {
+  pub seek_none : (R C : List Bool) → Looked n c n cols F clear clear R C → Blocked n (state c rows cols) R C
+  seek_none R C v = let w = free.some in record {
     row = w.0;
     row_in = w.1;
     row_free = w.2;

@@ -5,12 +5,10 @@ use Rattle.square.specs.Square.{zero_at}
 use Rattle.paths.specs.State.{State, state, Ok, paired}
 use Rattle.search.specs.Steps.{Closed, Within, Blocked, Corr, Stuck}
 
--- F marks the free rows, and b says whether there is one
-pub record Freed (b : Bool) (n : ℕ) (rows : List ℕ) (F : List Bool) : Type 0 where
-  pub len : length F ≡ 64
+-- F marks the free rows, and there is one
+pub record Freed (n : ℕ) (rows : List ℕ) (F : List Bool) : Type 0 where
   pub marks : (i : ℕ) → i < n → on F i ≡ not (paired n rows i)
-  pub some : b ≡ true → (i : ℕ) × (i < n) × (paired n rows i ≡ false)
-  pub all : b ≡ false → (i : ℕ) → i < n → paired n rows i ≡ true
+  pub some : (i : ℕ) × (i < n) × (paired n rows i ≡ false)
 
 -- from the marks R₀, C₀ to R, C: nothing is lost, what is new is closed, and its columns are all paired
 pub record Grown (c : List Float) (n : ℕ) (cols : List ℕ) (R₀ C₀ R C : List Bool) : Type 0 where

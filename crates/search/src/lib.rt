@@ -1,30 +1,37 @@
-// Steps D to G of the search. The square lies at stride 64; in the tables n or more is no partner; sets of rows and columns are marks.
+//! Steps D to G of the search. The square lies at stride 64; in the tables n or more is no partner; sets of rows and columns are marks.
 #![tactic(auto)]
 
-ghost use Rattle.std.specs.Prelude.{◌≡◌, false, ℕ, ◌*◌, ◌≤◌, ◌<◌, List, length};
+ghost use Rattle.std.specs.Prelude.{◌≡◌, false, ℕ, ◌*◌, ◌≤◌, ◌<◌, List, length, take, nat_lt, MatchOption, true};
+ghost use Rattle.std.specs.List.{list_all};
 ghost use Rattle.square.specs.Index.{on};
-ghost use Rattle.paths.specs.State.{state, Ok};
+ghost use Rattle.paths.specs.State.{state, Ok, paired};
 ghost use Rattle.search.specs.Run.{Run};
 ghost use Rattle.search.specs.Inner.{Freed, RowDone, ColDone, Looked, Met, Marked, Corrected};
 
-// Step D: marks the free rows, and says whether there is one.
-fn free_rows(rows: &[usize; 64], n: usize, free: &mut [bool; 64]) -> bool
-    requires { (n ≤ 64) × (length free.old ≡ 64) }
-    ensures { Freed result n rows.now free.new }
+/// Whether every row has a partner.
+fn all_paired(rows: &[usize; 64], n: usize) -> bool
+    requires { n ≤ 64 }
+    ensures { result ≡ list_all (λ partner. nat_lt partner n) (take n rows.now) }
 {
-    let mut some = false;
-    let mut i = 0usize;
-    while i < n {
-        free[i] = n <= rows[i];
-        if n <= rows[i] {
-            some = true;
-        }
-        i += 1;
-    }
-    some
+    rows[..n].iter().all(|partner| *partner < n)
 }
 
-// The row routine of step F: marks a row, and every column that a zero leads to. True where a free column is met: it stops there.
+/// Step D: the free rows, marked; `None` where every row is paired.
+fn free_rows(rows: &[usize; 64], n: usize) -> Option<[bool; 64]>
+    requires { n ≤ 64 }
+    ensures { MatchOption result ((i : ℕ) → i < n → paired n rows.now i ≡ true) (λ free. (length free ≡ 64) × Freed n rows.now free) }
+{
+    if all_paired(rows, n) {
+        return None;
+    }
+    let mut free = [false; 64];
+    for (row, partner) in rows[..n].iter().enumerate() {
+        free[row] = n <= *partner;
+    }
+    Some(free)
+}
+
+/// The row routine of step F: marks a row, and every column that a zero leads to. True where a free column is met: it stops there.
 #[cycle(reach_col_reach_row)]
 fn reach_row(
     c: &[f64],
@@ -38,21 +45,15 @@ fn reach_row(
     ensures { RowDone result c.now n cols.now row rs.old cs.old rs.new cs.new }
 {
     rs[row] = true;
-    let mut col = 0usize;
-    while col < n {
-        if floats::is_zero(c[row * 64 + col]) {
-            if !cs[col] {
-                if reach_col(c, n, cols, col, rs, cs) {
-                    return true;
-                }
-            }
+    for (col, x) in c[row * 64..row * 64 + n].iter().enumerate() {
+        if floats::is_zero(*x) && !cs[col] && reach_col(c, n, cols, col, rs, cs) {
+            return true;
         }
-        col += 1;
     }
     false
 }
 
-// The column routine: marks a column that is not marked yet, and goes on to its partner row.
+/// The column routine: marks a column that is not marked yet, and goes on to its partner row.
 #[cycle(reach_col_reach_row)]
 fn reach_col(
     c: &[f64],
@@ -76,7 +77,7 @@ fn reach_col(
     reach_row(c, n, cols, row, rs, cs)
 }
 
-// Goes through the rows marked in `look`, and gives the one at which a free column is met, or n.
+/// Goes through the rows marked in `look`, and gives the one at which a free column is met.
 fn spread(
     c: &[f64],
     n: usize,
@@ -84,31 +85,28 @@ fn spread(
     look: &[bool; 64],
     rs: &mut [bool; 64],
     cs: &mut [bool; 64],
-) -> usize
+) -> Option<usize>
     requires { (n ≤ 64) × (length rs.old ≡ 64) × (length cs.old ≡ 64) × (n * 64 ≤ length c.now) }
-    ensures { (result < n → Met result c.now n cols.now look.now rs.old cs.old rs.new cs.new)
-        × (n ≤ result → Looked n c.now n cols.now look.now rs.old cs.old rs.new cs.new) }
+    ensures { MatchOption result
+        (Looked n c.now n cols.now look.now rs.old cs.old rs.new cs.new)
+        (λ row. (row < n) × Met row c.now n cols.now look.now rs.old cs.old rs.new cs.new) }
 {
-    let mut row = 0usize;
-    while row < n {
-        if look[row] {
-            if reach_row(c, n, cols, row, rs, cs) {
-                return row;
-            }
+    for (row, looked) in look[..n].iter().enumerate() {
+        if *looked && reach_row(c, n, cols, row, rs, cs) {
+            return Some(row);
         }
-        row += 1;
     }
-    row
+    None
 }
 
-// How many corrections were made, and whether the minimum was of no use in the end.
+/// How many corrections were made, and whether the minimum was of no use in the end.
 #[derive(Clone, Copy)]
 pub struct Corrections {
     pub times: usize,
     pub stuck: bool,
 }
 
-// Steps F and G, from step F's sets on: a correction keeps what was reached, so the sets only grow, until a free column is reached.
+/// Steps F and G, from step F's sets on: a correction keeps what was reached, so the sets only grow, until a free column is reached.
 fn correct(
     c: &mut [f64],
     n: usize,
@@ -130,7 +128,7 @@ fn correct(
         let mut hot = [false; 64];
         corrections::shift(c, n, rs, cs, &outside, aways, m, &mut hot);
         times += 1;
-        if spread(c, n, cols, &hot, rs, cs) < n {
+        if spread(c, n, cols, &hot, rs, cs).is_some() {
             return Corrections {
                 times,
                 stuck: false,
@@ -139,26 +137,24 @@ fn correct(
     }
 }
 
-// How many corrections and path changes were made.
+/// How many corrections and path changes were made.
 #[derive(Clone, Copy)]
 pub struct Counts {
     pub corrections: usize,
     pub paths: usize,
 }
 
-// Steps D to G, with no cap.
+/// Steps D to G, with no cap.
 pub fn search(c: &mut [f64], n: usize, rows: &mut [usize; 64], cols: &mut [usize; 64]) -> Counts
     requires { Ok n (state c.old rows.old cols.old) }
     ensures { Run n (state c.old rows.old cols.old) result.corrections result.paths (state c.new rows.new cols.new) }
 {
     let mut corrections = 0usize;
     let mut paths = 0usize;
-    let mut free = [false; 64];
-    while free_rows(rows, n, &mut free) {
+    while let Some(free) = free_rows(rows, n) {
         let mut rs = [false; 64];
         let mut cs = [false; 64];
-        let start = spread(c, n, cols, &free, &mut rs, &mut cs);
-        if start < n {
+        if let Some(start) = spread(c, n, cols, &free, &mut rs, &mut cs) {
             paths::augment(c, n, rows, cols, start);
             paths += 1;
         } else {

@@ -1,27 +1,14 @@
--- A count that isn't negative, the lengths of a lent state, and a run that is written whole. Assumes nothing.
+-- The lengths of a lent state, and a run that is written whole. Assumes nothing.
 use mathlib.Core.Path.{◌≡◌, refl, sym, ap, ◌∙◌}
 use mathlib.Core.Bool.{Bool, true, false, cond, ◌&&◌, true≢false}
 use mathlib.Core.List.{List, ◌++◌, append-nil}
-use Prim.Native.Nat.{ℕ, ◌+◌, ◌<◌, ◌≤◌}
+use Prim.Native.Nat.{ℕ, ◌+◌, ◌≤◌}
 use native.Mathlib.Omega.{arith}
 use borrow.Author.Tests.{eqb-true}
-use lib.Dec.{T, eqb}
-use lib.IntN.{ℤ, pos, negsuc, nat_abs}
-use lib.Signed.{non_neg}
+use lib.Dec.{eqb}
 use lib.ListN.{length, drop_of_length-le}
 use lib.Seq.{sets, sets-eq}
-use mir.Syntax.{w32, w64}
-use mir.Val.{SFits, Fits}
 use Rattle.sizes.specs.Sizes.{Long, log_and_table, lengths_no}
-
--- ---- a count
-pub cast_size : (z : ℤ) → non_neg z ≡ true → SFits w32 z → T (non_neg z) × Fits w64 (nat_abs z)
-cast_size (pos n) t h = (tt, (let l : n < 2147483648 = h.sfits in record { fits = omega arith }))
-cast_size (negsuc n) t h = absurd (true≢false (sym t))
-
-pub size_few : (z : ℤ) → non_neg z ≡ true → SFits w32 z → nat_abs z ≤ 2147483647
-size_few (pos n) t h = let l : n < 2147483648 = h.sfits in omega arith
-size_few (negsuc n) t h = absurd (true≢false (sym t))
 
 -- ---- the lengths
 three_true : (a b c : Bool) → (a && (b && c)) ≡ true → (a ≡ true) × (b ≡ true) × (c ≡ true)

@@ -1,28 +1,11 @@
--- The number of a frame of ids and distances, and what number 0 says of its lengths. Assumes nothing.
+-- What the number 0 says of the lengths of a frame of ids and distances. Assumes nothing.
 use mathlib.Core.Path.{◌≡◌, refl}
 use mathlib.Core.Bool.{Bool, true, false, cond}
-use Prim.Native.Nat.{ℕ, ◌*◌, ◌<◌, ◌≤◌}
+use Prim.Native.Nat.{ℕ, ◌*◌, ◌≤◌}
 use native.Mathlib.Omega.{arith}
-use borrow.Author.Tests.{lt-ltb, le-ltb, ltb-false, eq-eqb, ne_eqb, eqb-true}
+use borrow.Author.Tests.{ltb-false, eqb-true}
 use lib.Dec.{ltb, eqb}
 use Rattle.sizes.specs.Sizes.{shape_no}
-
-module _ (rows columns size : ℕ) where
-  pub many_rows : 64 < rows → 2 ≡ shape_no rows columns size
-  unfolding shape_no
-  many_rows h = rw (lt-ltb 64 rows h) refl
-
-  pub many_columns : rows ≤ 64 → 64 < columns → 2 ≡ shape_no rows columns size
-  unfolding shape_no
-  many_columns h g = rw (le-ltb 64 rows h, lt-ltb 64 columns g) refl
-
-  pub other_size : rows ≤ 64 → columns ≤ 64 → (size ≡ rows * columns → ⊥) → 3 ≡ shape_no rows columns size
-  unfolding shape_no
-  other_size h g k = rw (le-ltb 64 rows h, le-ltb 64 columns g, ne_eqb size (rows * columns) k) refl
-
-  pub fitting_size : rows ≤ 64 → columns ≤ 64 → size ≡ rows * columns → 0 ≡ shape_no rows columns size
-  unfolding shape_no
-  fitting_size h g e = rw (le-ltb 64 rows h, le-ltb 64 columns g, eq-eqb size (rows * columns) e) refl
 
 pub record Shaped (rows columns size : ℕ) : Type 0 where
   pub few_rows : rows ≤ 64

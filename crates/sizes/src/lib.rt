@@ -3,9 +3,12 @@
 
 ghost use Rattle.std.specs.Prelude.{◌≡◌, true, ◌≤◌, nat_abs};
 ghost use Rattle.std.specs.Int.Signed.{non_neg};
+ghost use Rattle.refusals.specs.Refusals.{outcome_of};
 ghost use Rattle.sizes.specs.Sizes.{shape_no, log_and_table, lengths_no};
 
-// A count that is not negative. (Wider than an i32, so that the sum of 256 of them can be tested.)
+use refusals::{Refusal, outcome};
+
+/// A count that is not negative. (Wider than an i32, so that the sum of 256 of them can be tested.)
 pub fn size(n: i32) -> usize
     requires { non_neg n ≡ true }
     ensures { (result ≡ nat_abs n) × (result ≤ 2147483647) }
@@ -13,41 +16,42 @@ pub fn size(n: i32) -> usize
     n as usize
 }
 
-// 2 for too many ids on a side, 3 for distances that are not rows times columns.
+/// Whether a frame of `rows` truth ids, `columns` hypothesis ids and `size` distances is in shape.
+///
+/// # Errors
+/// `TooMany` for more than 64 ids on a side, and then `Misfit` for distances that are not rows times columns.
+#[tactic(auto, unfolding(crate::specs::Sizes::shape_no))]
+pub fn check_frame(rows: usize, columns: usize, size: usize) -> Result<(), Refusal>
+    ensures { outcome_of result ≡ shape_no rows columns size }
+{
+    if rows > 64 || columns > 64 {
+        return Err(Refusal::TooMany);
+    }
+    if size != rows * columns {
+        return Err(Refusal::Misfit);
+    }
+    Ok(())
+}
+
+// Kept until its callers have moved: `check_frame` says the same by a Result.
 pub fn shape_no(rows: usize, columns: usize, size: usize) -> u32
     ensures { result ≡ shape_no rows columns size }
 {
-    if rows > 64 {
-        return 2;
-    }
-    if columns > 64 {
-        return 2;
-    }
-    if size != rows * columns {
-        return 3;
-    }
-    0
+    outcome(check_frame(rows, columns, size))
 }
 
-// Whether a lent log and a lent table of truth ids are as long as a state's.
+/// Whether a lent log and a lent table of truth ids are as long as a state's.
+#[tactic(auto, unfolding(crate::specs::Sizes::log_and_table))]
 pub fn log_and_table(numbers: usize, distances: usize, table: usize) -> bool
     ensures { result ≡ log_and_table numbers distances table }
 {
-    if numbers != 4096 {
-        return false;
-    }
-    if distances != 1024 {
-        return false;
-    }
-    table == 768
+    numbers == 4096 && distances == 1024 && table == 768
 }
 
-// The number for a lent state of another length, where the frame's own lengths have the number `shape`.
+/// The number for a lent state of another length, where the frame's own lengths have the number `shape`.
+#[tactic(auto, unfolding(crate::specs::Sizes::lengths_no))]
 pub fn lengths_no(shape: u32) -> u32
     ensures { result ≡ lengths_no shape }
 {
-    if shape == 2 {
-        return 2;
-    }
-    3
+    if shape == 2 { 2 } else { 3 }
 }

@@ -1,13 +1,12 @@
 -- A descending sort is an ascending one by the negated keys, entries that tie as they stood. Assumes nothing.
 use mathlib.Core.Path.{◌≡◌, refl, sym, ap, ◌∙◌, subst}
-use mathlib.Core.Bool.{Bool, true, false, not, ◌&&◌, cond, and_comm}
+use mathlib.Core.Bool.{false, not, and_comm}
 use mathlib.Core.List.{List, [], ◌∷◌, map}
 use Prim.Native.Nat.{ℕ, zero, suc}
-use lib.ListN.{get_or}
-use lib.Ieee.{Float, nan, lt, neg, is_nan}
+use lib.Ieee.{Float, lt, neg, is_nan}
 use Rattle.floats.proofs.Negation.{neg-neg, neg-lt, neg_number}
 use Rattle.sorting.specs.Order.{Each, Numbers, key_of, ascending, descending, Sorted, tied, ties, StableSort}
-use Rattle.sorting.specs.Sort.{sort_of, fall_of}
+use Rattle.sorting.specs.Sort.{fall_of}
 use Rattle.sorting.proofs.Sorts.{sorts, one_sort}
 
 pub neg_key : (keys : List Float) (k : ℕ) → key_of (map neg keys) k ≡ neg (key_of keys k)

@@ -1,12 +1,12 @@
 -- A run sorted by halves: the front sorted, then the back, then the two merged. Assumes nothing.
-use mathlib.Core.Path.{◌≡◌, refl, sym, ap, ◌∙◌, subst}
+use mathlib.Core.Path.{◌≡◌, sym, ap, ◌∙◌, subst}
 use mathlib.Core.Bool.{false}
 use mathlib.Core.List.{List, [], ◌∷◌, ◌++◌, append-nil}
-use Prim.Native.Nat.{ℕ, zero, suc, ◌+◌, ◌<◌, ◌≤◌, ◌-◌, ◌/◌}
+use Prim.Native.Nat.{ℕ, zero, suc, ◌+◌, ◌≤◌, ◌-◌, ◌/◌}
 use native.Mathlib.Omega.{arith}
 use lib.ListN.{length, take, drop, take-append-drop, length-append, length-drop}
 use lib.Seq.{take_at, drop_at, drop-drop, drop-length, length-take-le, sets, sets-eq}
-use borrow.Rule.Slice.PartMut.{put_mid, post_of}
+use borrow.Rule.Slice.PartMut.{put_mid}
 use lib.Ieee.{Float, is_nan}
 use Rattle.sorting.specs.Order.{Each, Numbers, key_of}
 use Rattle.sorting.specs.Sort.{sort_of}
@@ -76,10 +76,13 @@ module _ (keys : List Float) (L A : List ℕ) (m : ℕ) (hm : m ≤ length L) (n
     merged_is =
         ap (λ (l : List ℕ). merge_of keys (take m l) (drop m l)) whole ∙ rw (take_at A B m len_A, drop_at A B m len_A, eA, B_is) (halves keys m L n)
 
-    pub ends : (S C O : List ℕ) → C ≡ sets S 0 (merge_of keys (take m (put_mid m (length (A ++ drop m L) - m) (A ++ drop m L) B)) (drop m (put_mid m (length (A ++ drop m L) - m) (A ++ drop m L) B)))
-        → length L ≤ length S → O ≡ take (length (put_mid m (length (A ++ drop m L) - m) (A ++ drop m L) B)) C → O ≡ sort_of keys L
+    -- the run as the code merges it
+    abbrev both : List ℕ
+    both = put_mid m (length (A ++ drop m L) - m) (A ++ drop m L) B
+
+    pub ends : (S C O : List ℕ) → C ≡ sets S 0 (merge_of keys (take m both) (take (length both - m) (drop m both))) → length L ≤ length S → O ≡ take (length L) C → O ≡ sort_of keys L
     ends S C O eC h eO =
         let s : length (sort_of keys L) ≡ length L = as_long keys L in
-        let c : C ≡ sets S 0 (sort_of keys L) = eC ∙ ap (sets S 0) merged_is in
+        let c : C ≡ sets S 0 (sort_of keys L) = eC ∙ ap (λ (l : List ℕ). sets S 0 (merge_of keys (take m both) l)) (tail_part m both) ∙ ap (sets S 0) merged_is in
         let f : C ≡ sort_of keys L ++ drop (0 + length (sort_of keys L)) S = c ∙ sets-eq (sort_of keys L) S 0 (let z : 0 + length (sort_of keys L) ≤ length S = omega arith in z) in
-        eO ∙ ap (λ (i : ℕ). take i C) len₂ ∙ ap (take (length L)) f ∙ take_at (sort_of keys L) (drop (0 + length (sort_of keys L)) S) (length L) s
+        eO ∙ ap (take (length L)) f ∙ take_at (sort_of keys L) (drop (0 + length (sort_of keys L)) S) (length L) s

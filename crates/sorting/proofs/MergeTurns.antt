@@ -1,15 +1,16 @@
--- The turns of merging and of copying. Assumes nothing.
-use mathlib.Core.Path.{◌≡◌, refl, sym, ap, ◌∙◌, subst}
-use mathlib.Core.Bool.{Bool, true, false, not, cond, true≢false, false≢true}
-use mathlib.Core.List.{List, [], ◌∷◌, ◌++◌}
-use Prim.Native.Nat.{ℕ, zero, suc, ◌+◌, ◌<◌, ◌≤◌, ◌-◌}
+-- The turns of merging, and the parts of a run. Assumes nothing.
+use mathlib.Core.Path.{◌≡◌, refl, ap, ◌∙◌}
+use mathlib.Core.Bool.{true, false, not, true≢false, false≢true}
+use mathlib.Core.List.{List, [], ◌∷◌}
+use Prim.Native.Nat.{ℕ, suc, ◌+◌, ◌<◌, ◌≤◌, ◌-◌}
 use native.Mathlib.Omega.{arith}
 use native.Mathlib.Numerals.{add-one}
 use native.Mathlib.Nat.{add-zero}
 use lib.ListN.{length, get_or, set, take, drop, length-drop, length-set}
-use lib.Seq.{sets, take-suc-set, take-suc, take-length, take_all, length-take-le, drop-cons, drop-length, get_or-drop, drop-drop}
-use lib.Ieee.{Float, nan, lt}
+use lib.Seq.{sets, take_all, length-take-le, drop-length, get_or-drop, drop-drop}
+use lib.Ieee.{Float, lt}
 use borrow.Author.Tests.{not-true, not-false}
+use Rattle.std.specs.Prelude.{None, Some, slice_get}
 use Rattle.sorting.specs.Order.{key_of}
 use Rattle.sorting.specs.Steps.{merge_of, first_next}
 
@@ -28,26 +29,23 @@ module _ (keys : List Float) where
   second_next (p ∷ a) [] e h = absurd (true≢false e)
   second_next (p ∷ a) (q ∷ b) e h = (omega arith, rw (not-false (lt (key_of keys q) (key_of keys p)) e) refl)
 
-  -- the code's test
-  pub no_first : (a b : List ℕ) (i j : ℕ) → length a ≤ i → first_next keys (drop i a) (drop j b) ≡ false
+  -- the code's test, by the first entry of each run
+  pub no_first : (a b : List ℕ) → None ≡ slice_get a 0 → false ≡ first_next keys a b
   unfolding first_next
-  no_first a b i j h = go (drop i a) (length-drop i a)
-    where
-      go : (l : List ℕ) → length l ≡ length a - i → first_next keys l (drop j b) ≡ false
-      go [] e = refl
-      go (p ∷ l) e = absurd (let z : ⊥ = omega arith in z)
+  no_first [] b e = refl
+  no_first (p ∷ a) b e = cc
 
-  pub no_second : (a b : List ℕ) (i j : ℕ) → i < length a → length b ≤ j → first_next keys (drop i a) (drop j b) ≡ true
+  pub no_second : (a b : List ℕ) (p : ℕ) → Some p ≡ slice_get a 0 → None ≡ slice_get b 0 → true ≡ first_next keys a b
   unfolding first_next
-  no_second a b i j g h = rw (drop-cons a i 0 g) (go (drop j b) (length-drop j b))
-    where
-      go : (l : List ℕ) → length l ≡ length b - j → first_next keys (get_or a i 0 ∷ drop (suc i) a) l ≡ true
-      go [] e = refl
-      go (q ∷ l) e = absurd (let z : ⊥ = omega arith in z)
+  no_second [] b p e f = cc
+  no_second (q ∷ a) [] p e f = refl
+  no_second (q ∷ a) (r ∷ b) p e f = cc
 
-  pub both_there : (a b : List ℕ) (i j : ℕ) → i < length a → j < length b → first_next keys (drop i a) (drop j b) ≡ not (lt (key_of keys (get_or b j 0)) (key_of keys (get_or a i 0)))
+  pub both_there : (a b : List ℕ) (p q : ℕ) (x y : Float) → Some p ≡ slice_get a 0 → Some q ≡ slice_get b 0 → y ≡ key_of keys q → x ≡ key_of keys p → not (lt y x) ≡ first_next keys a b
   unfolding first_next
-  both_there a b i j g h = rw (drop-cons a i 0 g, drop-cons b j 0 h) refl
+  both_there [] b p q x y e f ey ex = cc
+  both_there (r ∷ a) [] p q x y e f ey ex = cc
+  both_there (r ∷ a) (s ∷ b) p q x y e f ey ex = let g : p ≡ r = cc in let h : q ≡ s = cc in rw (ey, ex, g, h) refl
 
   -- what the loop keeps
   abbrev pub Merging : List ℕ → List ℕ → List ℕ → List ℕ → ℕ → ℕ → ℕ → Type 0
@@ -107,14 +105,7 @@ module _ (keys : List Float) where
   pub merge_starts : (a b out : List ℕ) → Merging a b out out 0 0 0
   merge_starts a b out = (omega arith, omega arith, refl, refl, refl)
 
--- ---- the front of one run over the whole of another
-pub copies : (i : ℕ) (from to : List ℕ) → i < length to → i < length from → take i to ≡ take i from → take (i + 1) (set to i (get_or from i 0)) ≡ take (i + 1) from
-copies i from to h g e =
-    rw (add-one i) (take-suc-set to i (get_or from i 0) h ∙ ap (λ (l : List ℕ). l ++ (get_or from i 0 ∷ [])) e ∙ sym (take-suc from i 0 g))
-
-pub copied : (i : ℕ) (from to to₀ : List ℕ) → i ≡ length to → length to ≡ length to₀ → take i to ≡ take i from → to ≡ take (length to₀) from
-copied i from to to₀ e l q = sym (take-length to) ∙ ap (λ (k : ℕ). take k to) (sym e) ∙ q ∙ ap (λ (k : ℕ). take k from) (e ∙ l)
-
+-- ---- the parts of a run
 -- the part of a run from m on
 pub tail_part : (m : ℕ) (l : List ℕ) → take (length l - m) (drop m l) ≡ drop m l
 tail_part m l = take_all (length l - m) (drop m l) (let e = length-drop m l in let z : length (drop m l) ≤ length l - m = omega arith in z)

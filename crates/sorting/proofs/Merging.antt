@@ -1,12 +1,12 @@
 -- Two sorts merged are the sort of the two lists. Assumes nothing.
-use mathlib.Core.Path.{◌≡◌, refl, sym, ap, ◌∙◌, subst}
+use mathlib.Core.Path.{◌≡◌, refl, sym, ap, ◌∙◌}
 use mathlib.Core.Bool.{Bool, true, false, cond}
 use mathlib.Core.List.{List, [], ◌∷◌, ◌++◌, append-nil}
-use Prim.Native.Nat.{ℕ, zero, suc, ◌+◌}
+use Prim.Native.Nat.{ℕ, suc, ◌+◌}
 use native.Mathlib.Omega.{arith}
 use lib.Dec.{eqb}
 use lib.Ieee.{Float, lt, is_nan}
-use Rattle.sorting.specs.Order.{Each, key_of, times, ascending, Sorted, tied, ties, Numbers, StableSort}
+use Rattle.sorting.specs.Order.{Each, key_of, times, ascending, Sorted, tied, ties, Numbers}
 use Rattle.sorting.specs.Sort.{sort_of}
 use Rattle.sorting.specs.Steps.{merge_of}
 use Rattle.floats.proofs.Order.{irreflexive, asymmetric}

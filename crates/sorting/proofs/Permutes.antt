@@ -1,10 +1,10 @@
 -- What holds of each entry of a list holds of each of a permutation of it; and sort_of permutes. Assumes nothing.
-use mathlib.Core.Path.{◌≡◌, refl, sym, ap, ◌∙◌, subst}
+use mathlib.Core.Path.{◌≡◌, refl, ap, ◌∙◌, subst}
 use mathlib.Core.Bool.{Bool, true, false, cond}
 use mathlib.Core.List.{List, [], ◌∷◌}
-use Prim.Native.Nat.{ℕ, zero, suc, ◌+◌, ◌<◌, ◌≤◌}
+use Prim.Native.Nat.{ℕ, zero, suc, ◌+◌, ◌<◌}
 use native.Mathlib.Omega.{arith}
-use native.Mathlib.Nat.{le_of_suc-le-suc, not-suc-le-zero, add-suc, suc-add, zero-add}
+use native.Mathlib.Nat.{le_of_suc-le-suc, not-suc-le-zero, zero-add}
 use borrow.Author.Tests.{eqb-true, eq-eqb}
 use lib.Dec.{eqb}
 use lib.ListN.{length, get_or}
@@ -71,7 +71,7 @@ module _ (keys : List Float) where
   unfolding sort_of times
   permutes l a = all_times a l [] ∙ zero-add (times a l)
 
-  put-length : (k : ℕ) (m : List ℕ) → length (put keys k m) ≡ suc (length m)
+  pub put-length : (k : ℕ) (m : List ℕ) → length (put keys k m) ≡ suc (length m)
   unfolding put
   put-length k [] = refl
   put-length k (j ∷ m) = go (lt (key_of keys k) (key_of keys j)) (put-length k m)

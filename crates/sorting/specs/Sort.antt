@@ -1,5 +1,5 @@
 -- A stable sort by insertion, as a definition to compute with: Order.antt's promise holds of it and of no other list.
-use Rattle.std.specs.Prelude.{Bool, cond, List, [], ◌∷◌, map, ℕ, Float}
+use Rattle.std.specs.Prelude.{cond, List, [], ◌∷◌, map, ℕ, Float}
 use Rattle.std.specs.Float.Ieee.{lt, neg}
 use Rattle.sorting.specs.Order.{key_of}
 

@@ -45,9 +45,6 @@ module _ (wanted : Bool) (marks : List Bool) where
 pub picked_at : {wanted : Bool} {marks : List Bool} {k : ℕ} {places places' : List ℕ} {used used' : ℕ} → places' ≡ places → used' ≡ used → Picked wanted marks k places used → Picked wanted marks k places' used'
 picked_at p q v = record { places_are = p ∙ v.places_are; used_is = q ∙ v.used_is }
 
-pub picked_end : {wanted : Bool} {marks : List Bool} {k n : ℕ} {places : List ℕ} {used : ℕ} → k ≡ n → Picked wanted marks k places used → Picked wanted marks n places used
-picked_end {wanted} {marks} {k} {n} {places} {used} e v = subst (λ (x : ℕ). Picked wanted marks x places used) e v
-
 -- ---- a loop over those that pass
 module _ {A : Type 0} (P : ℕ → Bool) (g : ℕ → A → A) (a : A) where
   one_more : (k : ℕ) (l : List ℕ) → loop (length (l ++ (k ∷ []))) (λ t. g (get_or (l ++ (k ∷ [])) t 0)) a ≡ g k (loop (length l) (λ t. g (get_or l t 0)) a)

@@ -24,9 +24,6 @@ module _ (p : ℕ → ℕ) (f : ℕ → Float → Float) where
   unfolding line
   line_more k c₀ c c' v e = e ∙ ap (λ (c : List Float). set c (p k) (f k (get_or c (p k) nan))) v ∙ sym (loop_more k (λ t c. set c (p t) (f t (get_or c (p t) nan))) c₀)
 
-  pub line_end : (k n : ℕ) (c₀ c : List Float) → k ≡ n → c ≡ line p k f c₀ → c ≡ line p n f c₀
-  line_end k n c₀ c e v = subst (λ (x : ℕ). c ≡ line p x f c₀) e v
-
   pub line_same : (g : ℕ → Float → Float) (k : ℕ) (c : List Float) → ((t : ℕ) → t < k → (x : Float) → f t x ≡ g t x) → line p k f c ≡ line p k g c
   unfolding line
   line_same g k c h = loop_same k _ _ c (λ t l x. ap (set x (p t)) (h t l (get_or x (p t) nan)))

@@ -1,20 +1,22 @@
 -- What one turn of the loops of steps A to C does. Assumes nothing.
-use Prim.Native.Nat.{ℕ, ◌+◌, ◌-◌, ◌*◌, ◌<◌, ◌≤◌}
+use Prim.Native.Nat.{ℕ, zero, suc, ◌+◌, ◌-◌, ◌*◌, ◌<◌, ◌≤◌}
 use mathlib.Core.Path.{◌≡◌, refl, sym, ap, ◌∙◌, subst}
 use mathlib.Core.Bool.{Bool, true, false, not, ◌&&◌}
 use mathlib.Core.List.{List}
 use native.Mathlib.Omega.{arith}
 use native.Mathlib.Nat.{suc-mul, mul-le-mul_right}
-use native.Mathlib.Numerals.{add-one}
 use lib.ListN.{length, get_or, set, take, drop, length-take, length-drop}
-use lib.Seq.{get_or-take, get_or-drop}
+use lib.Seq.{get_or-take, get_or-drop, paste, paste-suc, paste-zero}
+use borrow.Rule.Slice.PartMut.{put_mid}
+use Rattle.std.proofs.lemmas.Slice.{put_mid-paste}
 use lib.Ieee.{Float, nan, inf}
 use borrow.Author.Tests.{le-ltb, lt-ltb}
 use Rattle.floats.specs.Float.{is_finite}
-use Rattle.square.specs.Square.{zero_at, in_row, along, least, line}
+use Rattle.square.specs.Square.{zero_at, in_row, along, least, line, over}
+use Rattle.square.specs.Index.{loop}
 use Rattle.square.proofs.Truth.{and_not_left, and_not_right, not_of_true, not_of_false}
 use Rattle.square.proofs.Index.{loop_more}
-use Rattle.square.proofs.Square.{line_same}
+use Rattle.square.proofs.Square.{line_same, over_more}
 use Rattle.paths.specs.State.{paired}
 use Rattle.start.specs.Steps.{entry, least_along, less_by, lowered, rows_lowered, cols_lowered, Pairs, pairs_of, pair_if, pair_at, pair_row, pair_rows}
 
@@ -22,23 +24,40 @@ use Rattle.start.specs.Steps.{entry, least_along, less_by, lowered, rows_lowered
 pub row_part : (row h w : ℕ) → row < h → row * w + w ≤ h * w
 row_part row h w l = subst (λ (x : ℕ). x ≤ h * w) (suc-mul row w) (mul-le-mul_right w l)
 
-pub next_part : (row w at : ℕ) → at ≡ row * w → at + w ≡ (row + 1) * w
-next_part row w at e = ap (λ (x : ℕ). x + w) e ∙ sym (suc-mul row w) ∙ ap (λ (x : ℕ). x * w) (sym (add-one row))
+module _ (m : List Float) (row w : ℕ) (fits : row * w + w ≤ length m) where
+  abbrev part : List Float
+  part = take ((row * w + w) - row * w) (drop (row * w) m)
 
-module _ (m : List Float) (row w at : ℕ) (e : at ≡ row * w) (fits : row * w + w ≤ length m) where
-  pub part_length : length (take ((at + w) - at) (drop at m)) ≡ w
-  part_length = omega (arith, length-take ((at + w) - at) (drop at m), length-drop at m)
+  part_length : length part ≡ w
+  part_length = omega (arith, length-take ((row * w + w) - row * w) (drop (row * w) m), length-drop (row * w) m)
 
-  part_at : (j : ℕ) → j < w → get_or (take ((at + w) - at) (drop at m)) j nan ≡ entry m w row j
-  part_at j l =
-      get_or-take ((at + w) - at) (drop at m) j nan (omega arith) ∙ get_or-drop at m j nan
-      ∙ ap (λ (x : ℕ). get_or m (x + j) nan) e
+  part_at : (j : ℕ) → j < w → get_or part j nan ≡ entry m w row j
+  part_at j l = get_or-take ((row * w + w) - row * w) (drop (row * w) m) j nan (omega arith) ∙ get_or-drop (row * w) m j nan
 
-  pub part_line : (c : List Float) → line (in_row row) (length (take ((at + w) - at) (drop at m))) (λ j _. get_or (take ((at + w) - at) (drop at m)) j nan) c
-      ≡ line (in_row row) w (λ j _. entry m w row j) c
+  part_line : (c : List Float) → line (in_row row) (length part) (λ j _. get_or part j nan) c ≡ line (in_row row) w (λ j _. entry m w row j) c
   part_line c =
-      ap (λ (k : ℕ). line (in_row row) k (λ j _. get_or (take ((at + w) - at) (drop at m)) j nan) c) part_length
-      ∙ line_same (in_row row) (λ j _. get_or (take ((at + w) - at) (drop at m)) j nan) (λ j _. entry m w row j) w c (λ j l _. part_at j l)
+      ap (λ (k : ℕ). line (in_row row) k (λ j _. get_or part j nan) c) part_length
+      ∙ line_same (in_row row) (λ j _. get_or part j nan) (λ j _. entry m w row j) w c (λ j l _. part_at j l)
+
+-- the next row's part is copied
+pub part_more : (m : List Float) (h w row : ℕ) (c₀ c c' : List Float) → length m ≡ h * w → row < h → c ≡ over row w (λ i j _. entry m w i j) c₀
+    → c' ≡ line (in_row row) (length (take ((row * w + w) - row * w) (drop (row * w) m))) (λ j _. get_or (take ((row * w + w) - row * w) (drop (row * w) m)) j nan) c
+    → c' ≡ over (row + 1) w (λ i j _. entry m w i j) c₀
+part_more m h w row c₀ c c' long l v e =
+    over_more w (λ i j _. entry m w i j) row c₀ c c' v (e ∙ part_line m row w (omega (arith, row_part row h w l)) c)
+
+-- a copy over a row's places, place by place
+module _ (src c : List Float) (row : ℕ) (fits : row * 64 + length src ≤ length c) where
+  paste_line : (k : ℕ) → k ≤ length src → paste c (row * 64) src k ≡ line (in_row row) k (λ j _. get_or src j nan) c
+  unfolding line loop
+  paste_line zero h = sym (paste-zero c (row * 64) src)
+  paste_line (suc k) h =
+      sym (paste-suc c (row * 64) src k nan (omega arith) (omega arith))
+      ∙ ap (λ (x : List Float). set x (row * 64 + k) (get_or src k nan)) (paste_line k (omega arith))
+
+pub row_copied : (src c : List Float) (row k : ℕ) (copied : List Float) → row * 64 + length src ≤ length c → copied ≡ src → k ≡ length src
+    → put_mid (row * 64) k c copied ≡ line (in_row row) (length src) (λ j _. get_or src j nan) c
+row_copied src c row k copied fits e l = put_mid-paste (row * 64) k c copied src (length src) e (sym l) refl ∙ paste_line src c row fits (length src) (omega arith)
 
 -- ---- B
 pub least_none : (p : ℕ → ℕ) (c : List Float) → inf false ≡ least_along p 0 c
@@ -48,9 +67,6 @@ least_none p c = refl
 pub least_more : (p : ℕ → ℕ) (c : List Float) (k : ℕ) (a a' : Float) → a ≡ least_along p k c → a' ≡ least a (get_or c (p k) nan) → a' ≡ least_along p (k + 1) c
 unfolding least_along
 least_more p c k a a' v e = e ∙ ap (λ (a : Float). least a (get_or c (p k) nan)) v ∙ sym (loop_more k (λ t m. least m (get_or c (p t) nan)) (inf false))
-
-pub least_end : (p : ℕ → ℕ) (c : List Float) (k n : ℕ) (a : Float) → k ≡ n → a ≡ least_along p k c → a ≡ least_along p n c
-least_end p c k n a e v = subst (λ (x : ℕ). a ≡ least_along p x c) e v
 
 module _ (p : ℕ → ℕ) (n : ℕ) (c : List Float) (m : Float) (b : Bool) (e : m ≡ least_along p n c) (f : b ≡ is_finite m) (c' : List Float) where
   pub lower_yes : b ≡ true → c' ≡ less_by p n m c → c' ≡ lowered p n c
@@ -70,9 +86,6 @@ module _ (n : ℕ) where
   unfolding rows_lowered
   rows_more k c₀ c c' v e = e ∙ ap (lowered (along (k * 64) 1) n) v ∙ sym (loop_more k (λ i. lowered (along (i * 64) 1) n) c₀)
 
-  pub rows_end : (k : ℕ) (c₀ c : List Float) → k ≡ n → c ≡ rows_lowered n k c₀ → c ≡ rows_lowered n n c₀
-  rows_end k c₀ c e v = subst (λ (x : ℕ). c ≡ rows_lowered n x c₀) e v
-
   pub cols_none : (c : List Float) → c ≡ cols_lowered n 0 c
   unfolding cols_lowered
   cols_none c = refl
@@ -80,9 +93,6 @@ module _ (n : ℕ) where
   pub cols_more : (k : ℕ) (c₀ c c' : List Float) → c ≡ cols_lowered n k c₀ → c' ≡ lowered (along k 64) n c → c' ≡ cols_lowered n (k + 1) c₀
   unfolding cols_lowered
   cols_more k c₀ c c' v e = e ∙ ap (lowered (along k 64) n) v ∙ sym (loop_more k (λ j. lowered (along j 64) n) c₀)
-
-  pub cols_end : (k : ℕ) (c₀ c : List Float) → k ≡ n → c ≡ cols_lowered n k c₀ → c ≡ cols_lowered n n c₀
-  cols_end k c₀ c e v = subst (λ (x : ℕ). c ≡ cols_lowered n x c₀) e v
 
 -- ---- C
 -- two tables as one value
@@ -99,9 +109,6 @@ module _ (c : List Float) (n : ℕ) where
     unfolding pair_row
     row_more k t₀ t t' v e = e ∙ ap (pair_at c n i k) v ∙ sym (loop_more k (pair_at c n i) t₀)
 
-    pub row_end : (k : ℕ) (t₀ t : Pairs) → k ≡ n → t ≡ pair_row c n i k t₀ → t ≡ pair_row c n i n t₀
-    row_end k t₀ t e v = subst (λ (x : ℕ). t ≡ pair_row c n i x t₀) e v
-
   pub pass_none : (t : Pairs) → t ≡ pair_rows c n 0 t
   unfolding pair_rows
   pass_none t = refl
@@ -109,9 +116,6 @@ module _ (c : List Float) (n : ℕ) where
   pub pass_more : (k : ℕ) (t₀ t t' : Pairs) → t ≡ pair_rows c n k t₀ → t' ≡ pair_row c n k n t → t' ≡ pair_rows c n (k + 1) t₀
   unfolding pair_rows
   pass_more k t₀ t t' v e = e ∙ ap (pair_row c n k n) v ∙ sym (loop_more k (λ i. pair_row c n i n) t₀)
-
-  pub pass_end : (k : ℕ) (t₀ t : Pairs) → k ≡ n → t ≡ pair_rows c n k t₀ → t ≡ pair_rows c n n t₀
-  pass_end k t₀ t e v = subst (λ (x : ℕ). t ≡ pair_rows c n x t₀) e v
 
   module _ (i j : ℕ) (t t' : Pairs) where
     keeps : (b : Bool) → b ≡ false → t' ≡ t → t' ≡ pair_if b i j t

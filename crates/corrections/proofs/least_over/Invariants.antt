@@ -1,5 +1,4 @@
 -- `corrections::least_over` meets its contract: `m` is the minimum of the rows so far, whatever C the columns are outside of. Assumes nothing.
-use Prim.Native.Nat.{◌≤◌, ◌-◌}
 use mathlib.Core.Path.{◌≡◌}
 use mathlib.Core.Bool.{Bool, false}
 use mathlib.Core.List.{List}
@@ -8,7 +7,4 @@ use Rattle.corrections.specs.Correction.{least_rows}
 use Rattle.corrections.proofs.least_over.Given as goal
 
 abbrev pub invariant-loop-row : goal.invariant-loop-row
-invariant-loop-row l = (l.row ≤ l.n) × ((C : List Bool) → Picked false C l.n l.columns l.used → l.m ≡ least_rows l.c l.n l.rs C l.row)
-
-abbrev pub decreases-loop-row : goal.decreases-loop-row
-decreases-loop-row l = l.n - l.row
+invariant-loop-row l = (C : List Bool) → Picked false C l.n l.fn.columns l.used → l.m ≡ least_rows l.c l.n l.rs C l.row

@@ -1,13 +1,9 @@
--- `corrections::least_row` meets its contract: `m` is the minimum before place `t`, and what stands there is smaller. Assumes nothing.
-use mathlib.Core.Path.{refl, sym}
-use Rattle.square.proofs.Square.{least_new}
-use Rattle.corrections.proofs.LoopCode.{listed_none, listed_more}
+-- `corrections::least_row` meets its contract: the minimum over the columns that are left, from the minimum so far, is the minimum over all. Assumes nothing.
+use Rattle.corrections.proofs.LoopCode.{left_more, left_none}
 use Rattle.corrections.proofs.least_row.Goals as goal
 
-pub loop-t-init : goal.loop-t-init
-loop-t-init c = let b = c.next_below-t.ensures in (b.within, b.kept _ (sym (listed_none _ _ _ _)), b.less)
-
 pub loop-t-preserved : goal.loop-t-preserved
-loop-t-preserved c =
-    let b = c.next_below-t-in-loop-t.ensures in
-    (b.within, b.kept _ (listed_more _ _ _ c.loop-t.t _ _ _ c.loop-t.invariant.1 (least_new _ _ _ refl (c.loop-t.invariant.2 c.loop-t-test.true))), b.less)
+loop-t-preserved c = left_more _ _ _ _ _ _ c.loop-t.invariant c.in-Some.ensures.first
+
+pub returns : goal.returns
+returns c = left_none _ _ _ _ _ c.loop-t.invariant c.in_default.ensures.first

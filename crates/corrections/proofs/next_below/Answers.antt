@@ -1,11 +1,10 @@
--- `corrections::next_below` meets its contract: no entry from `from` to `t` is smaller than `m`. Assumes nothing.
-use mathlib.Core.Path.{refl}
+-- `corrections::next_below` meets its contract: no entry before place `t` is smaller than `m`. Assumes nothing.
 use native.Mathlib.Omega.{arith}
-use Rattle.square.proofs.Square.{least_old}
-use Rattle.corrections.proofs.LoopCode.{listed_more}
+use Rattle.corrections.proofs.LoopCode.{first_at, none_at}
 use Rattle.corrections.proofs.next_below.Goals as goal
 
-pub loop-t-preserved : goal.loop-t-preserved
-loop-t-preserved c =
-    let v = c.loop-t.invariant in
-    (omega arith, omega arith, λ m₀ e. listed_more _ _ _ c.loop-t.t _ _ _ (v.2 m₀ e) (least_old _ _ _ refl c.if-c-row.false))
+pub returns-then-line-col-clause-first : goal.returns-then-line-col-clause-first
+returns-then-line-col-clause-first c = first_at c.args.line.now c.args.m c.args.columns.now c.loop-t.t c.loop-t-test.true c.loop-t.invariant c.if-line-col.true
+
+pub returns-clause-first : goal.returns-clause-first
+returns-clause-first c = none_at c.args.line.now c.args.m c.args.columns.now c.loop-t.t (omega arith) c.loop-t.invariant

@@ -1,14 +1,10 @@
--- `corrections::put_on` meets its contract: `m` is added so far to the first `t` listed entries. Assumes nothing.
-use Prim.Native.Nat.{◌≤◌, ◌-◌}
-use mathlib.Core.Path.{◌≡◌}
-use lib.ListN.{length}
-use lib.Ieee.{binary64, add}
+-- `corrections::put_on` meets its contract: `m` is added so far to the first listed entries. Assumes nothing.
+use Rattle.std.proofs.Common.{◌≡◌}
+use Rattle.std.specs.Float.{binary64}
+use Rattle.std.specs.Float.Ieee.{add}
 use Rattle.square.specs.Square.{line}
-use Rattle.corrections.specs.Inner.{listed}
+use Rattle.corrections.specs.Inner.{Listed}
 use Rattle.corrections.proofs.put_on.Given as goal
 
-abbrev pub invariant-loop-t : goal.invariant-loop-t
-invariant-loop-t l = (l.t ≤ l.used) × (length l.c ≡ length l.initial.c) × (l.c ≡ line (listed l.row l.columns) l.t (λ _ x. add binary64 x l.m) l.initial.c)
-
-abbrev pub decreases-loop-t : goal.decreases-loop-t
-decreases-loop-t l = l.used - l.t
+abbrev pub invariant-loop-col : goal.invariant-loop-col
+invariant-loop-col l = l.entries ≡ line (Listed l.columns) l.col-index (λ _ x. add binary64 x l.m) l.initial.entries

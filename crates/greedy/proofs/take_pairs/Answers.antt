@@ -1,39 +1,40 @@
--- `greedy::take_pairs` meets its contract. The arrays hold what is taken of the pairs so far. Assumes nothing.
-use Prim.Native.Nat.{◌<◌}
-use native.Mathlib.Omega.{arith}
+-- The pairing holds what is taken of the pairs so far.
+use Rattle.std.proofs.Common.{◌<◌, arith}
+use Rattle.greedy.specs.Greedy.{marked}
 use Rattle.greedy.proofs.Taking as law
 use Rattle.greedy.proofs.take_pairs.Goals as goal
-use Rattle.greedy.proofs.take_pairs.Goals.{Then-both_free, else-both_free, then-both_free}
+use Rattle.greedy.proofs.take_pairs.Goals.{Then-not-p-col, then-not-p-row+then-not-p-col, else-not-p-row, else-not-p-row-via-then-not-p-row+else-not-p-col, else-not-p-row-via-else-not-p-row}
 
-has_room : (c : Then-both_free) → c.loop-i.used < 64
+has_room : (c : Then-not-p-col) → c.loop-place.p.used < 64
 has_room c =
-    law.room c.args.n c.args.w c.args.order.now c.loop-i.pairs c.loop-i.rows c.loop-i.cols c.loop-i.used c.loop-i.i c.requires.0 c.requires.1 c.requires.2 c.loop-i.invariant c.loop-i-test.true
-    c.row_of-row.result c.col_of-col.result c.both_free.result c.row_of-row.ensures c.col_of-col.ensures c.both_free.ensures c.if-both_free.true
+    law.room c.args.n c.args.w c.args.order.now c.loop-place.place-index c.requires.0 c.requires.1 c.requires.2 c.loop-place-test.true
+    c.loop-place.p c.loop-place.invariant c.row_of-row.result c.col_of-col.result c.row_of-row.ensures c.col_of-col.ensures c.if-not-p-row.true
 
-pub loop-i-init : goal.loop-i-init
-loop-i-init c = law.starts _ _
+pub loop-place-init : goal.loop-place-init
+unfolding marked
+loop-place-init c = law.starts c.args.w c.args.order.now
 
-pub offset_bounds-pairs-used : goal.offset_bounds-pairs-used
-offset_bounds-pairs-used c = record { fits = omega (arith, has_room (goal.at.offset_bounds-pairs-used c).Then-both_free) }
+pub offset_bounds-p-p : goal.offset_bounds-p-p
+offset_bounds-p-p c = record { fits = omega (arith, has_room (goal.at.offset_bounds-p-p c).Then-not-p-col) }
 
-pub bounds-pairs-used : goal.bounds-pairs-used
-bounds-pairs-used c = has_room (goal.at.bounds-pairs-used c).Then-both_free
+pub bounds-p-p : goal.bounds-p-p
+bounds-p-p c = has_room (goal.at.bounds-p-p c).Then-not-p-col
 
-pub overflow_add-used : goal.overflow_add-used
-overflow_add-used c = record { fits = omega (arith, has_room (goal.at.overflow_add-used c).Then-both_free) }
+pub overflow_add-p : goal.overflow_add-p
+overflow_add-p c = record { fits = omega (arith, has_room (goal.at.overflow_add-p c).Then-not-p-col) }
 
-pub loop-i-preserved : goal.loop-i-preserved
-loop-i-preserved c =
-    elim c.if-both_free.branch [
-      | then-both_free v ↦ law.takes c.args.n c.args.w c.args.order.now c.loop-i.pairs c.loop-i.rows c.loop-i.cols c.loop-i.used c.loop-i.i c.requires.0 c.requires.1 c.requires.2 c.loop-i.invariant c.loop-i-test.true
-          c.row_of-row.result c.col_of-col.result c.both_free.result c.row_of-row.ensures c.col_of-col.ensures c.both_free.ensures
-          c.if-both_free.pairs c.if-both_free.rows c.if-both_free.cols c.if-both_free.used v.if-both_free.true v.pairs-is v.rows-is v.cols-is v.used-is
-      | else-both_free v ↦ law.skips c.args.n c.args.w c.args.order.now c.loop-i.pairs c.loop-i.rows c.loop-i.cols c.loop-i.used c.loop-i.i c.requires.0 c.requires.1 c.requires.2 c.loop-i.invariant c.loop-i-test.true
-          c.row_of-row.result c.col_of-col.result c.both_free.result c.row_of-row.ensures c.col_of-col.ensures c.both_free.ensures
-          c.if-both_free.pairs c.if-both_free.rows c.if-both_free.cols c.if-both_free.used v.if-both_free.false v.pairs-is v.rows-is v.cols-is v.used-is
+pub loop-place-preserved : goal.loop-place-preserved
+loop-place-preserved c =
+    let i = c.loop-place.place-index in
+    let p = c.loop-place.p in
+    let p' = c.if-not-p-row.p in
+    elim c.if-not-p-row.branch [
+      | then-not-p-row+then-not-p-col v ↦ law.takes c.args.n c.args.w c.args.order.now i c.requires.0 c.requires.1 c.requires.2 c.loop-place-test.true p c.loop-place.invariant
+          c.row_of-row.result c.col_of-col.result c.row_of-row.ensures c.col_of-col.ensures p' v.if-not-p-row.true v.if-not-p-col.true v.p-is
+      | else-not-p-row v ↦ elim v.else-not-p-row.branch [
+        | else-not-p-row-via-then-not-p-row+else-not-p-col v' ↦ law.col_gone c.args.n c.args.w c.args.order.now i c.requires.0 c.requires.1 c.requires.2 c.loop-place-test.true p c.loop-place.invariant
+            c.row_of-row.result c.col_of-col.result c.row_of-row.ensures c.col_of-col.ensures p' v'.if-not-p-row.true v'.if-not-p-col.false v.p-is
+        | else-not-p-row-via-else-not-p-row v' ↦ law.row_gone c.args.n c.args.w c.args.order.now i c.requires.0 c.requires.1 c.requires.2 c.loop-place-test.true p c.loop-place.invariant
+            c.row_of-row.result c.col_of-col.result c.row_of-row.ensures c.col_of-col.ensures p' v'.if-not-p-row.false v.p-is
+      ]
     ]
-
-pub returns : goal.returns
-returns c =
-    let k = c.loop-i.invariant.within in
-    law.done c.args.w c.args.order.now c.loop-i.pairs c.loop-i.rows c.loop-i.cols c.loop-i.used c.loop-i.i (omega arith) c.loop-i.invariant

@@ -1,8 +1,6 @@
--- `greedy_pairs::by_share_in` meets its contract. What the sort is handed is the negated IoUs, and what is handed back 1.0 less each. Assumes nothing.
-use mathlib.Core.Path.{ap, subst, sym, ◌∙◌}
-use mathlib.Core.List.{map}
-use lib.ListN.{take}
-use lib.Ieee.{binary64, neg, add, le}
+-- `greedy_pairs::by_share_in` meets its contract. What the sort is handed is the negated IoUs, and what is handed back 1.0 less each.
+use Rattle.std.proofs.Common.{ap, subst, sym, ◌∙◌, map, take, rules}
+use lib.Ieee.{binary64, neg, add, le, of_bits}
 use Rattle.floats.specs.Float.{one64}
 use Rattle.sorting.specs.Order.{Numbers}
 use Rattle.sorting.specs.Sort.{sort_of}
@@ -15,26 +13,29 @@ use Rattle.greedy_pairs.proofs.Frames as law
 use Rattle.greedy_pairs.proofs.by_share_in.Goals as goal
 
 pub pair_listed-p-requires : goal.pair_listed-p-requires
-pair_listed-p-requires c =
+pair_listed-p-requires g c =
     let i = c.args.shares.now in
     let t = c.args.threshold in
-    let a = c.list_at_least-used.new.order in
-    let u = c.list_at_least-used.result in
-    let eu = c.list_at_least-used.ensures.0 in
-    let ea = c.list_at_least-used.ensures.1 in (
-      c.requires.0,
-      c.requires.1,
-      law.listed_few (le t) i c.args.n c.args.w c.requires.0 c.requires.1 c.requires.2 a u eu ea,
-      subst (λ keys. Numbers keys (take u a)) (sym c.negate.ensures)
-          (neg_numbers i (take u a) (law.listed_numbers (le t) i c.args.n c.args.w c.requires.0 c.requires.1 c.requires.2 a u eu ea (share_number t))),
-      law.listed_inside (le t) i c.args.n c.args.w c.requires.0 c.requires.1 c.requires.2 a u eu ea,
+    let m = c.requires.matrix in
+    let a = c.list_passing-used.new.order in
+    let u = c.list_passing-used.result in
+    let l = c.list_passing-used.ensures.listed (le t) (λ x r p. search rules) in
+    let e = c.change_each.ensures neg (λ x r p. search rules) in (
+      m.0,
+      m.1,
+      law.listed_few (le t) i c.args.n c.args.w m.0 m.1 m.2 a u l.0 l.1,
+      subst (λ keys. Numbers keys (take u a)) (sym e) (neg_numbers i (take u a) (law.listed_numbers (le t) i c.args.n c.args.w m.0 m.1 m.2 a u l.0 l.1 (share_number t))),
+      law.listed_inside (le t) i c.args.n c.args.w m.0 m.1 m.2 a u l.0 l.1,
     )
 
 pub returns : goal.returns
-unfolding by_share
-returns c = (
-  c.pair_listed-p.ensures
-      ∙ ap (λ keys. pairing_of c.args.w (sort_of keys (take c.list_at_least-used.result c.list_at_least-used.new.order))) c.negate.ensures
-      ∙ ap (λ l. pairing_of c.args.w (sort_of (map neg c.args.shares.now) l)) c.list_at_least-used.ensures.1,
-  c.take_from_one.ensures ∙ ap (map (add binary64 one64)) c.negate.ensures ∙ less_each c.args.shares.now,
-)
+unfolding by_share of_bits
+returns g c =
+    let l = c.list_passing-used.ensures.listed (le c.args.threshold) (λ x r p. search rules) in
+    let e = c.change_each.ensures neg (λ x r p. search rules) in
+    let f = c.change_each-2.ensures (add binary64 one64) (λ x r p. search rules) in (
+      c.pair_listed-p.ensures
+          ∙ ap (λ keys. pairing_of c.args.w (sort_of keys (take c.list_passing-used.result c.list_passing-used.new.order))) e
+          ∙ ap (λ l. pairing_of c.args.w (sort_of (map neg c.args.shares.now) l)) l.1,
+      f ∙ ap (map (add binary64 one64)) e ∙ less_each c.args.shares.now,
+    )

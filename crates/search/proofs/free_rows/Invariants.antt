@@ -1,10 +1,7 @@
 -- `search::free_rows` meets its contract. Assumes nothing.
-use Prim.Native.Nat.{◌≤◌, ◌-◌}
-use Rattle.search.proofs.FreeRows as code
+use Rattle.std.proofs.Common.{◌≡◌, length}
+use Rattle.search.proofs.FreeRows.{Marks}
 use Rattle.search.proofs.free_rows.Given as goal
 
-abbrev pub invariant-loop-i : goal.invariant-loop-i
-invariant-loop-i l = (n64 : l.n ≤ 64) × code.FreeInv l.n n64 l.rows l.free l.some l.i
-
-abbrev pub decreases-loop-i : goal.decreases-loop-i
-decreases-loop-i l = l.n - l.i
+abbrev pub invariant-loop-row : goal.invariant-loop-row
+invariant-loop-row l = (length l.free ≡ 64) × Marks l.n l.rows l.free l.row

@@ -1,10 +1,6 @@
 -- `search::spread` meets its contract: the row routine was called for the rows of `look` below `row`. Assumes nothing.
-use Prim.Native.Nat.{◌≤◌, ◌-◌}
 use Rattle.search.specs.Inner.{Looked}
 use Rattle.search.proofs.spread.Given as goal
 
 abbrev pub invariant-loop-row : goal.invariant-loop-row
-invariant-loop-row l = (l.row ≤ l.n) × Looked l.row l.c l.n l.cols l.look l.initial.rs l.initial.cs l.rs l.cs
-
-abbrev pub decreases-loop-row : goal.decreases-loop-row
-decreases-loop-row l = l.n - l.row
+invariant-loop-row l = Looked l.row l.c l.n l.cols l.look l.initial.rs l.initial.cs l.rs l.cs

@@ -11,5 +11,5 @@ returns t c =
     let j = c.sort_run-2.auto.scratch in
     let room : length run ≤ length c.sort_run-2.new.scratch = omega arith in
     law.ends c.args.keys.now run c.sort_run.new.order (length run / 2) (law.half (length run)) c.requires.0
-    c.sort_run.ensures c.sort_run-2.new.order c.sort_run-2.ensures c.sort_run-2.new.scratch c.merge_halves.new.out
-    c.copy_front.new.to c.merge_halves.ensures room c.copy_front.ensures
+    c.sort_run.ensures c.sort_run-2.new.order c.sort_run-2.ensures c.sort_run-2.new.scratch c.merge.new.out
+    c.copy_from_slice.new.self c.merge.ensures room c.copy_from_slice.ensures.after

@@ -1,24 +1,14 @@
--- `sorting::from_first` meets its contract. Assumes nothing.
-use mathlib.Core.Path.{sym}
-use Prim.Native.Nat.{◌≤◌, ◌<◌}
-use native.Mathlib.Omega.{arith}
-use lib.ListN.{length}
+-- `sorting::from_first` meets its contract.
 use Rattle.sorting.proofs.MergeTurns.{no_first, no_second, both_there}
 use Rattle.sorting.proofs.from_first.Goals as goal
 
-pub returns-then-i-a : goal.returns-then-i-a
-returns-then-i-a c =
-    let h : length c.args.a.now ≤ c.args.i = omega arith in
-    sym (no_first c.args.keys.now c.args.a.now c.args.b.now c.args.i c.args.j h)
+pub returns-in-None-default : goal.returns-in-None-default
+returns-in-None-default c = no_first c.args.keys.now c.args.a.now c.args.b.now c.in-None-default.ensures.value
 
-pub returns-then-j-b : goal.returns-then-j-b
-returns-then-j-b c =
-    let g : c.args.i < length c.args.a.now = omega arith in
-    let h : length c.args.b.now ≤ c.args.j = omega arith in
-    sym (no_second c.args.keys.now c.args.a.now c.args.b.now c.args.i c.args.j g h)
+pub returns-in-Some-None : goal.returns-in-Some-None
+returns-in-Some-None c = let s = c.in-Some-None in no_second c.args.keys.now c.args.a.now c.args.b.now s.field-0-0.now s.ensures.value s.ensures'.value
 
-pub returns : goal.returns
-returns c =
-    let g : c.args.i < length c.args.a.now = omega arith in
-    let h : c.args.j < length c.args.b.now = omega arith in
-    rw (c.key_at-y.ensures, c.key_at-x.ensures) (sym (both_there c.args.keys.now c.args.a.now c.args.b.now c.args.i c.args.j g h))
+pub returns-in-Some-Some : goal.returns-in-Some-Some
+returns-in-Some-Some c =
+    let s = c.in-Some-Some in
+    both_there c.args.keys.now c.args.a.now c.args.b.now s.p.now s.q.now _ _ s.ensures.value s.ensures'.value c.key_at.ensures c.key_at-in-Some-Some.ensures

