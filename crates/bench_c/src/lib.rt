@@ -1,4 +1,4 @@
-// Updates for bench/run, made one after the other on this side of the border, where the state stays.
+//! Updates for bench/run, made one after the other on this side of the border, where the state stays.
 #![tactic(auto)]
 
 mod metric_updates;
@@ -7,7 +7,7 @@ mod mot;
 use rows::ExtendedMOTAccumulator;
 use totals::Totals;
 
-// The public update by one frame so many times, from a new state; the total distance.
+/// The public update by one frame so many times, from a new state; the total distance.
 #[unsafe(no_mangle)]
 pub extern "C" fn bench_update(
     gt_ids: &[i32],
@@ -18,16 +18,13 @@ pub extern "C" fn bench_update(
     times: u64,
 ) -> f64 {
     let mut s = ExtendedMOTAccumulator::new();
-    let mut left = times;
-    while left > 0 {
-        let b = extended::update(s, gt_ids, gt_bboxes, pred_ids, pred_bboxes, threshold);
-        s = b.state;
-        left = left - 1;
+    for _ in 0..times {
+        s = extended::update(s, gt_ids, gt_bboxes, pred_ids, pred_bboxes, threshold).state;
     }
     s.total_distance
 }
 
-// The same by the inner update, which asks for a used count within the table.
+/// The same by the inner update, which asks for a used count within the table.
 #[unsafe(no_mangle)]
 pub extern "C" fn bench_update_sound(
     gt_ids: &[i32],
@@ -38,19 +35,16 @@ pub extern "C" fn bench_update_sound(
     times: u64,
 ) -> f64 {
     let mut s = ExtendedMOTAccumulator::new();
-    let mut left = times;
-    while left > 0 {
+    for _ in 0..times {
         if s.used > 256 {
             return 0.0;
         }
-        let b = extended::update_sound(s, gt_ids, gt_bboxes, pred_ids, pred_bboxes, threshold);
-        s = b.state;
-        left = left - 1;
+        s = extended::update_sound(s, gt_ids, gt_bboxes, pred_ids, pred_bboxes, threshold).state;
     }
     s.total_distance
 }
 
-// The same by the inner update in a table that is lent, with so many slots in use.
+/// The same by the inner update in a table that is lent, with so many slots in use.
 #[unsafe(no_mangle)]
 pub extern "C" fn bench_update_in_place(
     run: &mut [i32],
@@ -62,16 +56,14 @@ pub extern "C" fn bench_update_in_place(
     threshold: f64,
     times: u64,
 ) -> f64 {
-    if run.len() != 2304 {
+    if run.len() != 2304 || used > 256 {
         return 0.0;
     }
-    if used > 256 {
-        return 0.0;
-    }
-    let mut totals = Totals::new();
-    totals.used = used;
-    let mut left = times;
-    while left > 0 {
+    let mut totals = Totals {
+        used,
+        ..Totals::new()
+    };
+    'updates: for _ in 0..times {
         let c = extended_in_place::update_in_place(
             run,
             totals,
@@ -82,7 +74,6 @@ pub extern "C" fn bench_update_in_place(
             threshold,
         );
         totals = c.totals;
-        left = left - 1;
     }
     totals.total_distance
 }

@@ -1,8 +1,8 @@
-// Updates of module 4's MOTAccumulator by one frame so many times, from a new state; how many events are logged then.
+//! Updates of module 4's MOTAccumulator by one frame so many times, from a new state; how many events are logged then.
 use metrics::MOTAccumulator;
 use metrics_in_place::Used;
 
-// The public update.
+/// The public update.
 #[unsafe(no_mangle)]
 pub extern "C" fn bench_metrics_update(
     gt_ids: &[i32],
@@ -13,16 +13,13 @@ pub extern "C" fn bench_metrics_update(
     times: u64,
 ) -> usize {
     let mut s = MOTAccumulator::new();
-    let mut left = times;
-    while left > 0 {
-        let u = metrics_update::update(s, 1, gt_ids, hyp_ids, gt_boxes, hyp_boxes, iou_threshold);
-        s = u.state;
-        left = left - 1;
+    for _ in 0..times {
+        s = metrics_update::update(s, 1, gt_ids, hyp_ids, gt_boxes, hyp_boxes, iou_threshold).state;
     }
     s.log.used
 }
 
-// The inner update, which asks for used counts within the log and the tables.
+/// The inner update, which asks for used counts within the log and the tables.
 #[unsafe(no_mangle)]
 pub extern "C" fn bench_metrics_update_sound(
     gt_ids: &[i32],
@@ -33,15 +30,8 @@ pub extern "C" fn bench_metrics_update_sound(
     times: u64,
 ) -> usize {
     let mut s = MOTAccumulator::new();
-    let mut left = times;
-    while left > 0 {
-        if s.log.used > 1024 {
-            return 0;
-        }
-        if s.truths.used > 256 {
-            return 0;
-        }
-        if s.hypotheses.used > 1024 {
+    for _ in 0..times {
+        if s.log.used > 1024 || s.truths.used > 256 || s.hypotheses.used > 1024 {
             return 0;
         }
         let u = metrics_update::update_sound(
@@ -54,12 +44,11 @@ pub extern "C" fn bench_metrics_update_sound(
             iou_threshold,
         );
         s = u.state;
-        left = left - 1;
     }
     s.log.used
 }
 
-// The inner update on runs that are lent by the caller, with so many ids in use, as in `mot`.
+/// The inner update on runs that are lent by the caller, with so many ids in use, as in `mot`.
 #[unsafe(no_mangle)]
 pub extern "C" fn bench_metrics_update_in_place(
     numbers: &mut [i32],
@@ -75,31 +64,21 @@ pub extern "C" fn bench_metrics_update_in_place(
     iou_threshold: f64,
     times: u64,
 ) -> usize {
-    if numbers.len() != 4096 {
+    if numbers.len() != 4096 || log_distances.len() != 1024 {
         return 0;
     }
-    if log_distances.len() != 1024 {
+    if table.len() != 768 || hypotheses.len() != 1024 {
         return 0;
     }
-    if table.len() != 768 {
-        return 0;
-    }
-    if hypotheses.len() != 1024 {
-        return 0;
-    }
-    if truths > 256 {
-        return 0;
-    }
-    if known > 1024 {
+    if truths > 256 || known > 1024 {
         return 0;
     }
     let mut used = Used {
         events: 0,
-        truths: truths,
+        truths,
         hypotheses: known,
     };
-    let mut left = times;
-    while left > 0 {
+    'updates: for _ in 0..times {
         let c = metrics_in_place::update_in_place(
             numbers,
             log_distances,
@@ -114,7 +93,6 @@ pub extern "C" fn bench_metrics_update_in_place(
             iou_threshold,
         );
         used = c.used;
-        left = left - 1;
     }
     used.events
 }

@@ -1,16 +1,13 @@
-// Bytes laid one after the other.
+//! Bytes laid one after the other.
 ghost use Rattle.std.specs.Prelude.{◌+◌, ◌≤◌, length};
 ghost use Rattle.decimal_text.specs.Texts.{Laid};
 
-// A part laid at a place, and the place after it. What lies before stays.
+/// A part laid at a place, and the place after it. What lies before stays.
 pub fn put(out: &mut [u8], at: usize, part: &[u8]) -> usize
     requires { at + length part.now ≤ length out.old }
     ensures { Laid at part.now out.old out.new result }
 {
-    let mut i: usize = 0;
-    while i < part.len() {
-        out[at + i] = part[i];
-        i += 1;
-    }
-    at + part.len()
+    let end = at + part.len();
+    out[at..end].copy_from_slice(part);
+    end
 }

@@ -1,5 +1,5 @@
-// A float in decimal to six places, exact as C's "%.6f": the digits are those of the binary value,
-// rounded to the nearest, ties to even. Its shape is proved; the digits are compared with Python's.
+//! A float in decimal to six places, exact as C's "%.6f": the digits are those of the binary value,
+//! rounded to the nearest, ties to even. Its shape is proved; the digits are compared with Python's.
 #![tactic(auto)]
 
 ghost use Rattle.std.specs.Prelude.{◌≡◌, true, ◌≤◌, ◌<◌, length, take};
@@ -50,8 +50,7 @@ fn write_digits(digits: &[u8; 315], out: &mut [u8], at: usize) -> usize
     requires { (all_digits digits.now ≡ true) × (317 ≤ length out.old) × (at ≤ 1) }
     ensures { Numbered at out.old out.new result }
 {
-    let first = first_shown(digits);
-    write_shown(digits, first, out, at)
+    write_shown(digits, first_shown(digits), out, at)
 }
 
 fn write_number(exponent: u64, fraction: u64, out: &mut [u8], at: usize) -> usize
@@ -60,7 +59,7 @@ fn write_number(exponent: u64, fraction: u64, out: &mut [u8], at: usize) -> usiz
 {
     let mut n = [0u32; 35];
     millionths(exponent, fraction, &mut n);
-    let mut digits = [48u8; 315];
+    let mut digits = [b'0'; 315];
     spell(&n, &mut digits);
     write_digits(&digits, out, at)
 }
@@ -77,7 +76,7 @@ fn write_pattern(bits: u64, out: &mut [u8]) -> usize
     write_number(exponent, bits % 0x10_0000_0000_0000, out, at)
 }
 
-// The text at the start of out, and how many bytes it has.
+/// The text at the start of out, and how many bytes it has.
 pub fn write_six(x: f64, out: &mut [u8; 320]) -> usize
     ensures upper_bound { (result ≤ 317) × IsPrefixLen result out.new }
     ensures written { Written (to_bits binary64 x) (take result out.new) }

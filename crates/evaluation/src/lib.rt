@@ -1,16 +1,16 @@
-// The metrics of the public module's accumulator.
-// Ported from norfair-rs, metrics/evaluation.rs (NOTICE).
+//! The metrics of the public module's accumulator.
+//! Ported from norfair-rs, metrics/evaluation.rs (NOTICE).
 #![tactic(auto)]
 
 ghost use Rattle.std.specs.Prelude.{◌≡◌};
 ghost use Rattle.scores.specs.Scores.{Few};
-ghost use Rattle.evaluation.specs.Evaluation.{metrics_of, no_metrics, evaluated_of};
+ghost use Rattle.evaluation.specs.Evaluation.{metrics_of, evaluated_of};
 
 use events::Tally;
 use metrics::MOTAccumulator;
 
-// The Rust's 13 fields; those that it leaves 0 stay 0.
-#[derive(Clone, Copy)]
+/// The Rust's 13 fields; those that it leaves 0 stay 0.
+#[derive(Clone, Copy, Default)]
 pub struct MOTMetrics {
     pub mota: f64,
     pub motp: f64,
@@ -27,7 +27,8 @@ pub struct MOTMetrics {
     pub num_fragmentations: usize,
 }
 
-// The number, and the metrics; beside a refusal they are all 0.
+/// The number, and the metrics; beside a refusal they are all 0.
+// Kept: a refusal is a number beside the state at each public call, for C callers too.
 #[derive(Clone, Copy)]
 pub struct Evaluated {
     pub number: u32,
@@ -35,6 +36,7 @@ pub struct Evaluated {
 }
 
 // The metrics of a tally, beside so many truth ids and hypothesis ids.
+#[tactic(auto, unfolding(crate::specs::Evaluation::metrics_of))]
 fn metrics_of(t: Tally, gt_ids: usize, hyp_ids: usize) -> MOTMetrics
     requires { Few t }
     ensures { result ≡ metrics_of t gt_ids hyp_ids }
@@ -45,54 +47,32 @@ fn metrics_of(t: Tally, gt_ids: usize, hyp_ids: usize) -> MOTMetrics
         mota: scores::mota(t),
         motp: scores::mean(t.iou, scores::pairs(t)),
         idf1: scores::f1(precision, recall),
-        precision: precision,
-        recall: recall,
+        precision,
+        recall,
         num_false_positives: t.false_positives,
         num_misses: t.misses,
         num_switches: t.switches,
         num_gt_ids: gt_ids,
         num_hyp_ids: hyp_ids,
-        mostly_tracked: 0,
-        mostly_lost: 0,
-        num_fragmentations: 0,
-    }
-}
-
-fn no_metrics() -> MOTMetrics
-    ensures { result ≡ no_metrics }
-{
-    MOTMetrics {
-        mota: 0.0,
-        motp: 0.0,
-        idf1: 0.0,
-        precision: 0.0,
-        recall: 0.0,
-        num_false_positives: 0,
-        num_misses: 0,
-        num_switches: 0,
-        num_gt_ids: 0,
-        num_hyp_ids: 0,
-        mostly_tracked: 0,
-        mostly_lost: 0,
-        num_fragmentations: 0,
+        ..MOTMetrics::default()
     }
 }
 
 impl MOTMetrics {
+    /// The metrics of a state that is sound; else refusal 1.
+    #[tactic(auto, unfolding(crate::specs::Evaluation::evaluated_of))]
     pub fn from_accumulator(acc: MOTAccumulator) -> Evaluated
         ensures { result ≡ evaluated_of acc }
     {
         if !acc.sound() {
-            let none = no_metrics();
             return Evaluated {
                 number: 1,
-                metrics: none,
+                metrics: MOTMetrics::default(),
             };
         }
-        let metrics = metrics_of(acc.tally(), acc.truths.used, acc.hypotheses.used);
         Evaluated {
             number: 0,
-            metrics: metrics,
+            metrics: metrics_of(acc.tally(), acc.truths.used, acc.hypotheses.used),
         }
     }
 }

@@ -1,5 +1,5 @@
-// The extended accumulator's public update over flat lent numbers, as it goes over the border to C: no enum and no struct crosses.
-// Ported from norfair-rs, internal/motmetrics/accumulator.rs, which follows py-motmetrics (NOTICE).
+//! The extended accumulator's public update over flat lent numbers, as it goes over the border to C: no enum and no struct crosses.
+//! Ported from norfair-rs, internal/motmetrics/accumulator.rs, which follows py-motmetrics (NOTICE).
 #![tactic(auto)]
 
 ghost use Rattle.std.specs.Prelude.{◌≡◌, true, [], ◌∷◌, ◌≤◌, pos, length, take, get_or};
@@ -19,42 +19,31 @@ fn counts_sound(run: &[i32], used: usize) -> bool
     ensures { result ≡ counts_sound (take used (slots_of run.now)) }
 {
     let mut all = true;
-    let mut i: usize = 0;
-    while i < used {
+    for i in 0..used {
         let slot = slot_cells::slot_of(columns::read(run, 256, i));
-        let it = slot.lifecycle;
-        if !it.sound() {
+        if !slot.lifecycle.sound() {
             all = false;
         }
-        i = i + 1;
     }
     all
 }
 
 // Whether a table that is handed in is one that refusal 1 lets by.
+#[tactic(auto, using(columns::proofs::Laws::ids_there), unfolding(slots::specs::Slots::sound_of))]
 fn table_sound(run: &[i32], used: usize) -> bool
     requires { length run.now ≡ 2304 }
     ensures { result ≡ sound_of (slots_of run.now) used }
 {
-    if used > 256 {
-        return false;
-    }
-    if !counts_sound(run, used) {
-        return false;
-    }
-    ids::distinct(&run[..used])
+    used <= 256 && counts_sound(run, used) && ids::distinct(&run[..used])
 }
 
 // Whether a state that is handed in is one that refusal 1 lets by.
+#[tactic(auto, unfolding(frame::specs::Frame::sound_state, frame::specs::Frame::totals_sound))]
 fn sound(run: &[i32], totals: Totals) -> bool
     requires { length run.now ≡ 2304 }
     ensures { result ≡ sound_state (state_of run.now totals) }
 {
-    if !totals::totals_sound(totals) {
-        return false;
-    }
-    let used = totals.used;
-    table_sound(run, used)
+    totals::totals_sound(totals) && table_sound(run, totals.used)
 }
 
 // The update of any table and totals: the lowest number that applies, and the totals.
@@ -71,10 +60,7 @@ fn update_checked(
     ensures { Checked run.old totals gt_ids.now gt_bboxes.now pred_ids.now pred_bboxes.now threshold run.new result }
 {
     if !sound(&run[..], totals) {
-        return Closed {
-            number: 1,
-            totals: totals,
-        };
+        return Closed { number: 1, totals };
     }
     extended_in_place::update_in_place(
         run,
@@ -92,9 +78,8 @@ fn totals_in(counters: &[i32], distance: &[f64]) -> Totals
     requires { (length counters.now ≡ 7) × (length distance.now ≡ 1) × (non_neg (get_or counters.now 0 (pos 0)) ≡ true) }
     ensures { result ≡ totals_in counters.now distance.now }
 {
-    let used = sizes::size(counters[0]);
     Totals {
-        used: used,
+        used: sizes::size(counters[0]),
         frame_id: counters[1],
         num_matches: counters[2],
         num_misses: counters[3],
@@ -110,20 +95,15 @@ fn write_totals(t: Totals, counters: &mut [i32], distance: &mut [f64])
     requires { (length counters.old ≡ 7) × (length distance.old ≡ 1) × (t.used ≤ 256) }
     ensures { (counters.new ≡ counters_of t) × (distance.new ≡ t.total_distance ∷ []) }
 {
-    let used = t.used as i32;
-    let frame = t.frame_id;
-    let matches = t.num_matches;
-    let misses = t.num_misses;
-    let false_positives = t.num_false_positives;
-    let switches = t.num_switches;
-    let objects = t.num_objects;
-    counters[0] = used;
-    counters[1] = frame;
-    counters[2] = matches;
-    counters[3] = misses;
-    counters[4] = false_positives;
-    counters[5] = switches;
-    counters[6] = objects;
+    counters.copy_from_slice(&[
+        t.used as i32,
+        t.frame_id,
+        t.num_matches,
+        t.num_misses,
+        t.num_false_positives,
+        t.num_switches,
+        t.num_objects,
+    ]);
     distance[0] = t.total_distance;
 }
 
@@ -132,7 +112,7 @@ fn write_totals(t: Totals, counters: &mut [i32], distance: &mut [f64])
 fn whole(run: usize, counters: usize, distance: usize) -> bool
     ensures { result ≡ whole_of run counters distance }
 {
-    totals::all_three(run == 2304, counters == 7, distance == 1)
+    run == 2304 && counters == 7 && distance == 1
 }
 
 // The update of lent runs that are as long as a state's.
@@ -162,16 +142,14 @@ fn update_whole(
         pred_bboxes,
         threshold,
     );
-    let number = c.number;
-    if number != 0 {
-        return number;
+    if c.number != 0 {
+        return c.number;
     }
-    let after = c.totals;
-    write_totals(after, counters, distance);
+    write_totals(c.totals, counters, distance);
     0
 }
 
-// The update of any lent state by any frame: the lowest number that applies. Beside a refusal every lent number stays.
+/// The update of any lent state by any frame: the lowest number that applies. Beside a refusal every lent number stays.
 pub fn update(
     run: &mut [i32],
     counters: &mut [i32],

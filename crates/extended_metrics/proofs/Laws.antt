@@ -24,7 +24,7 @@ use Rattle.slots.proofs.Faults.{counts_read}
 use Rattle.rows.specs.declared.ExtendedMOTAccumulator.{ExtendedMOTAccumulator}
 use Rattle.frame.specs.Frame.{sound_state, totals_sound}
 use Rattle.extended_metrics.specs.declared.Tally.{Tally}
-use Rattle.extended_metrics.specs.Metrics.{class_tally, plus, added_of, tally_at, tally_of, metrics_at, refused_at, summed_of}
+use Rattle.extended_metrics.specs.Metrics.{class_tally, plus, lone_of, added_of, tally_at, tally_of, metrics_at, refused_at, summed_of}
 use Rattle.extended_metrics.specs.Bounds.{Below}
 
 both : (a b : Bool) → (a && b) ≡ true → (a ≡ true) × (b ≡ true)
@@ -67,9 +67,10 @@ one MostlyLost = (omega arith, omega arith, omega arith)
 pub class_few : (t : Tally) (c : Class) → t ≡ class_tally c → (t.tracked ≤ 1) × (t.partially ≤ 1) × (t.lost ≤ 1)
 class_few t c e = subst (λ (x : Tally). (x.tracked ≤ 1) × (x.partially ≤ 1) × (x.lost ≤ 1)) (sym e) (one c)
 
-pub plus_below : (t c : Tally) (k more : ℕ) → Below t k → (c.tracked ≤ 1) × (c.partially ≤ 1) × (c.lost ≤ 1) → more ≤ 2147483647 → Below (plus t c more) (k + 1)
-plus_below t c k more b o m =
+pub plus_below : (t one : Tally) (k : ℕ) → Below t k → Below one 1 → Below (plus t one one.fragmentations) (k + 1)
+plus_below t one k b o =
     let a₁ = b.tracked in let a₂ = b.partially in let a₃ = b.lost in let a₄ = b.fragmentations in
+    let o₁ = o.tracked in let o₂ = o.partially in let o₃ = o.lost in let o₄ = o.fragmentations in
     record { tracked = omega arith; partially = omega arith; lost = omega arith; fragmentations = omega arith }
 
 pub none_below : Below (tally_at 0 0 0 0) 0
@@ -83,9 +84,13 @@ pub tally_more : (slots : List Slot) (k : ℕ) (t r : Tally) → t ≡ tally_of 
 tally_more slots k t r e q =
     q ∙ (ap (λ (x : Tally). added_of x (get_or slots k no_slot).lifecycle) e ∙ sym (ap (tally_of slots) (add-one k) ∙ (unfold tally_of in refl)))
 
-pub plus_is : (t c : Tally) (more : ℕ) (it : TrackLifecycle) → c ≡ class_tally (class_of (shared_of it)) → more ≡ nat_abs it.fragmentations → plus t c more ≡ added_of t it
+pub lone_is : (c : Tally) (more : ℕ) (it : TrackLifecycle) → c ≡ class_tally (class_of (shared_of it)) → more ≡ nat_abs it.fragmentations
+    → tally_at c.tracked c.partially c.lost more ≡ lone_of it
+lone_is c more it e q = λ i. tally_at (e i).tracked (e i).partially (e i).lost (q i)
+
+pub plus_is : (t one : Tally) (it : TrackLifecycle) → one ≡ lone_of it → plus t one one.fragmentations ≡ added_of t it
 unfolding added_of
-plus_is t c more it e q = λ i. plus t (e i) (q i)
+plus_is t one it e = ap (λ (o : Tally). plus t o o.fragmentations) e
 
 -- ---- the answer
 pos_fits : (n : ℕ) → n < 2147483648 → SFits w32 (pos n)

@@ -25,6 +25,11 @@ plus t c more = tally_at (t.tracked + c.tracked) (t.partially + c.partially) (t.
 unfoldable pub added_of : Tally → TrackLifecycle → Tally
 added_of t it = plus t (class_tally (class_of (shared_of it))) (nat_abs it.fragmentations)
 
+-- one lifecycle alone
+abbrev pub lone_of : TrackLifecycle → Tally
+lone_of it =
+    tally_at (class_tally (class_of (shared_of it))).tracked (class_tally (class_of (shared_of it))).partially (class_tally (class_of (shared_of it))).lost (nat_abs it.fragmentations)
+
 -- the first k slots
 unfoldable pub tally_of : List Slot → ℕ → Tally
 tally_of slots zero = tally_at 0 0 0 0

@@ -1,11 +1,11 @@
-// How many objects were mostly tracked, partly or mostly lost, and how often their tracks broke in all.
-// Ported from norfair-rs, internal/motmetrics/accumulator.rs, which follows py-motmetrics (NOTICE).
+//! How many objects were mostly tracked, partly or mostly lost, and how often their tracks broke in all.
+//! Ported from norfair-rs, internal/motmetrics/accumulator.rs, which follows py-motmetrics (NOTICE).
 #![tactic(auto)]
 
 ghost use Rattle.std.specs.Prelude.{◌≡◌, true, ◌+◌, ◌*◌, ◌≤◌, pos, take};
 ghost use Rattle.std.specs.Int.Signed.{non_neg};
 ghost use Rattle.slots.specs.Slots.{counts_sound};
-ghost use Rattle.extended_metrics.specs.Metrics.{class_tally, added_of, tally_of, refused_at, summed_of, metrics_of};
+ghost use Rattle.extended_metrics.specs.Metrics.{class_tally, lone_of, tally_of, refused_at, summed_of, metrics_of};
 ghost use Rattle.extended_metrics.specs.Bounds.{Below};
 
 use lifecycle::TrackLifecycle;
@@ -13,8 +13,9 @@ use lifecycle_parts::Class;
 use rows::ExtendedMOTAccumulator;
 use slots::Slot;
 
-// The Rust's four numbers behind the port's own.
-#[derive(Clone, Copy)]
+/// The Rust's four numbers behind the port's own.
+// Kept: a refusal is a number beside the counts at each public call, for C callers too.
+#[derive(Clone, Copy, Default)]
 pub struct ExtendedMetrics {
     pub number: u32,
     pub mostly_tracked: i32,
@@ -23,7 +24,8 @@ pub struct ExtendedMetrics {
     pub total_fragmentations: i32,
 }
 
-#[derive(Clone, Copy)]
+/// How many lifecycles are of each class, and the fragmentations of all.
+#[derive(Clone, Copy, Default)]
 pub struct Tally {
     pub tracked: usize,
     pub partially: usize,
@@ -31,62 +33,50 @@ pub struct Tally {
     pub fragmentations: usize,
 }
 
+#[tactic(auto, unfolding(crate::specs::Metrics::class_tally))]
 fn of_class(class: Class) -> Tally
     ensures { result ≡ class_tally class }
 {
     match class {
         Class::MostlyTracked => Tally {
             tracked: 1,
-            partially: 0,
-            lost: 0,
-            fragmentations: 0,
+            ..Tally::default()
         },
         Class::PartiallyTracked => Tally {
-            tracked: 0,
             partially: 1,
-            lost: 0,
-            fragmentations: 0,
+            ..Tally::default()
         },
         Class::MostlyLost => Tally {
-            tracked: 0,
-            partially: 0,
             lost: 1,
-            fragmentations: 0,
+            ..Tally::default()
         },
     }
 }
 
-// A tally of k lifecycles, and one more.
-fn added(t: Tally, it: TrackLifecycle, k: usize) -> Tally
-    requires { (k ≤ 256) × Below t k × (non_neg it.fragmentations ≡ true) }
-    ensures { (result ≡ added_of t it) × Below result (k + 1) }
+// One lifecycle.
+fn tally_of_one(it: TrackLifecycle) -> Tally
+    requires { non_neg it.fragmentations ≡ true }
+    ensures { (result ≡ lone_of it) × Below result 1 }
 {
-    let c = of_class(lifecycle_parts::class_of(it.share()));
-    let more = sizes::size(it.fragmentations);
     Tally {
-        tracked: t.tracked + c.tracked,
-        partially: t.partially + c.partially,
-        lost: t.lost + c.lost,
-        fragmentations: t.fragmentations + more,
+        fragmentations: sizes::size(it.fragmentations),
+        ..of_class(lifecycle_parts::class_of(it.share()))
     }
 }
 
-fn tallied(slots: [Slot; 256], used: usize) -> Tally
-    requires { (used ≤ 256) × (counts_sound (take used slots) ≡ true) }
-    ensures { (result ≡ tally_of slots used) × Below result used }
+fn tallied(slots: &[Slot; 256], used: usize) -> Tally
+    requires { (used ≤ 256) × (counts_sound (take used slots.now) ≡ true) }
+    ensures { (result ≡ tally_of slots.now used) × Below result used }
 {
-    let mut t = Tally {
-        tracked: 0,
-        partially: 0,
-        lost: 0,
-        fragmentations: 0,
-    };
-    let mut i: usize = 0;
-    while i < used {
-        let slot = slots[i];
-        let it = slot.lifecycle;
-        t = added(t, it, i);
-        i = i + 1;
+    let mut t = Tally::default();
+    for slot in &slots[..used] {
+        let one = tally_of_one(slot.lifecycle);
+        t = Tally {
+            tracked: t.tracked + one.tracked,
+            partially: t.partially + one.partially,
+            lost: t.lost + one.lost,
+            fragmentations: t.fragmentations + one.fragmentations,
+        };
     }
     t
 }
@@ -95,11 +85,8 @@ fn refused(number: u32) -> ExtendedMetrics
     ensures { result ≡ refused_at number }
 {
     ExtendedMetrics {
-        number: number,
-        mostly_tracked: 0,
-        mostly_lost: 0,
-        partially_tracked: 0,
-        total_fragmentations: 0,
+        number,
+        ..ExtendedMetrics::default()
     }
 }
 
@@ -119,14 +106,12 @@ fn summed(t: Tally) -> ExtendedMetrics
     }
 }
 
-// The classes and the summed fragmentations, or the number.
+/// The classes and the summed fragmentations, or the number.
 pub fn compute_extended_metrics(s: ExtendedMOTAccumulator) -> ExtendedMetrics
     ensures { result ≡ metrics_of s }
 {
     if !frame::sound(s) {
         return refused(1);
     }
-    let table = s.slots;
-    let used = s.used;
-    summed(tallied(table, used))
+    summed(tallied(&s.slots, s.used))
 }

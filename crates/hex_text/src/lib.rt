@@ -1,4 +1,4 @@
-// A bit pattern as hexadecimal digits.
+//! A bit pattern as hexadecimal digits.
 #![tactic(auto)]
 
 ghost use Rattle.std.specs.Prelude.{◌≡◌, ◌<◌, length};
@@ -10,20 +10,23 @@ fn glyph(d: u64) -> u8
     requires { d < 16 }
     ensures { result ≡ Digits·glyph d }
 {
-    if d < 10 { 48 + d as u8 } else { 87 + d as u8 }
+    if d < 10 {
+        b'0' + d as u8
+    } else {
+        b'a' + (d - 10) as u8
+    }
 }
 
-// All 16 digits, the last first. io::hex does as much, with three divisions for a digit.
+/// All 16 digits, the last first. io::hex does as much, with three divisions for a digit.
+#[tactic(auto, unfolding(crate::specs::Spelled::spelled))]
 pub fn spell(n: u64) -> [u8; 16]
     ensures { (result ≡ spelled n) × (16 ≡ length result) }
 {
     let mut letters = [0u8; 16];
-    let mut i: usize = 16;
     let mut rest = n;
-    while i > 0 {
-        i -= 1;
+    for i in (0..16).rev() {
         letters[i] = glyph(rest % 16);
-        rest = rest / 16;
+        rest /= 16;
     }
     letters
 }

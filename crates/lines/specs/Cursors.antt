@@ -1,5 +1,5 @@
 -- What the reader and the writer keep from call to call. Assumes nothing.
-use Rattle.std.specs.Prelude.{◌≡◌, Bool, true, cond, List, ℕ, ◌+◌, ◌≤◌, ltb, length, take, get_or}
+use Rattle.std.specs.Prelude.{◌≡◌, true, cond, List, ℕ, ◌+◌, ◌≤◌, ltb, length, take, get_or}
 use Rattle.lines.specs.declared.input.Reader.{Reader}
 use Rattle.lines.specs.declared.output.Writer.{Writer}
 
@@ -9,18 +9,15 @@ pub record Within (r : Reader) : Type 0 where
   pub held : r.end ≤ 65536
 
 -- the byte that stands next; a line's end, 10, where nothing is left
-abbrev pub next_byte : List ℕ → Reader → ℕ
-next_byte buf r = cond (ltb r.at r.end) (get_or buf r.at 0) 10
+abbrev pub next_byte : Reader → ℕ
+next_byte r = cond (ltb r.at r.end) (get_or r.buf r.at 0) 10
 
-abbrev pub marked_of : Reader → Bool → Reader
-marked_of r fault = record { stdin = r.stdin; at = r.at; end = r.end; over = r.over; fault = fault }
+-- the place of the byte after it
+abbrev pub passed_of : Reader → ℕ
+passed_of r = cond (ltb r.at r.end) (r.at + 1) r.at
 
-abbrev pub passed_of : Reader → Reader
-passed_of r = cond (ltb r.at r.end) (record { stdin = r.stdin; at = r.at + 1; end = r.end; over = r.over; fault = r.fault }) r
-
--- what every read keeps: a fault stays, and so does the input's end
+-- what every read keeps: the input's end stays
 pub record Onward (r q : Reader) : Type 0 where
-  pub faults : r.fault ≡ true → q.fault ≡ true
   pub ends : r.over ≡ true → q.over ≡ true
   pub stays : Within r → Within q
 

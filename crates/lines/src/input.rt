@@ -1,165 +1,60 @@
-// Standard input, word by word. A fault stays until the next line begins, and after it nothing is
-// read, so a request reads all its words and asks once whether they were there.
-ghost use Rattle.std.specs.Prelude.{◌≡◌, true, false, ◌≤◌, length};
+//! Standard input, word by word. Where the line does not say what is asked for, a method answers None; what it has read stays read.
+ghost use Rattle.std.specs.Prelude.{◌≡◌, true, false, ◌≤◌, length, IfSome, option_map};
+ghost use Rattle.std.specs.Float.{binary64};
+ghost use Rattle.std.specs.Float.Ieee.{of_bits};
 ghost use Rattle.io.specs.Counts.{IsPrefixLen};
 ghost use Rattle.numerals.specs.Numbers.{hex_of, decimal_of};
 ghost use Rattle.wholes.specs.Wholes.{whole_of};
-ghost use Rattle.lines.specs.Cursors.{Within, Front, Onward, next_byte, marked_of, passed_of};
-ghost use Rattle.lines.specs.Words.{float_read, count_read, whole_read};
 
 use float_bits::float_of;
-use numerals::digits::{Number, decimal, hex};
+use numerals::digits::{decimal, hex};
 use std::io::{Read, Stdin};
-use wholes::{Whole, whole_in};
+use wholes::whole_in;
 
-// A place in the buffer, which holds what was read of stdin up to end.
-#[derive(Clone, Copy)]
+/// How many floats a run may have.
+pub const LONGEST_RUN: usize = 8192;
+
+/// Standard input through a buffer, in which what was read and not yet passed lies from `at` up to `end`.
+#[derive(Drop)]
 pub struct Reader {
     pub stdin: Stdin,
+    pub buf: [u8; 65536],
     pub at: usize,
     pub end: usize,
+    /// Nothing is left to read: the input has ended, or a read has failed.
     pub over: bool,
-    pub fault: bool,
+    pub ghost inside: { at ≤ end },
+    pub ghost held: { end ≤ 65536 },
 }
 
-#[derive(Clone, Copy)]
-pub struct Peeked {
-    pub byte: u8,
-    pub reader: Reader,
+/// What a word can say.
+pub trait Word: Copy {
+    /// What the word says; None where it says no such value.
+    fn said(word: &[u8]) -> Option<Self>;
 }
 
-#[derive(Clone, Copy)]
-pub struct ReadWord {
-    pub len: usize,
-    pub reader: Reader,
-}
-
-#[derive(Clone, Copy)]
-pub struct ReadFloat {
-    pub value: f64,
-    pub reader: Reader,
-}
-
-#[derive(Clone, Copy)]
-pub struct ReadCount {
-    pub value: u64,
-    pub reader: Reader,
-}
-
-#[derive(Clone, Copy)]
-pub struct ReadWhole {
-    pub value: i32,
-    pub reader: Reader,
-}
-
-#[derive(Clone, Copy)]
-pub struct ReadRun {
-    pub len: usize,
-    pub reader: Reader,
-}
-
-pub fn start(stdin: Stdin) -> Reader
-    ensures { result ≡ record { stdin = stdin; at = 0; end = 0; over = false; fault = false } }
-{
-    Reader {
-        stdin,
-        at: 0,
-        end: 0,
-        over: false,
-        fault: false,
+impl Word for f64 {
+    /// The float whose bits are the word's 16 hexadecimal digits.
+    fn said(word: &[u8]) -> Option<f64>
+        ensures { result ≡ option_map (λ bits. of_bits binary64 bits) (hex_of word.now) }
+    {
+        hex(word).map(float_of)
     }
 }
 
-// The same place, with or without a fault.
-pub fn marked(mut r: Reader, fault: bool) -> Reader
-    ensures { result ≡ marked_of r fault }
-{
-    r.fault = fault;
-    r
-}
-
-fn read_more(buf: &mut [u8; 65536], mut stdin: Stdin, fault: bool) -> Reader
-    ensures { (result.fault ≡ fault) × Within result }
-{
-    let n = stdin.read(buf).unwrap_or(0);
-    Reader {
-        stdin,
-        at: 0,
-        end: n,
-        over: n == 0,
-        fault,
+impl Word for u64 {
+    fn said(word: &[u8]) -> Option<u64>
+        ensures { result ≡ decimal_of word.now }
+    {
+        decimal(word)
     }
 }
 
-// Where all that was read is used up, more is read.
-fn filled(buf: &mut [u8; 65536], r: Reader) -> Reader
-    ensures { Onward r result × Within result }
-{
-    if r.at < r.end {
-        if r.end <= 65536 {
-            return r;
-        }
-    }
-    if r.over {
-        return Reader {
-            stdin: r.stdin,
-            at: 0,
-            end: 0,
-            over: true,
-            fault: r.fault,
-        };
-    }
-    read_more(buf, r.stdin, r.fault)
-}
-
-// The byte that stands next, which is not passed; a line's end where the input is over.
-pub fn peek(buf: &mut [u8; 65536], r: Reader) -> Peeked
-    ensures onward { Onward r result.reader × Within result.reader }
-    ensures byte_value { result.byte ≡ next_byte buf.new result.reader }
-{
-    let q = filled(buf, r);
-    let at = q.at;
-    if at < q.end {
-        return Peeked {
-            byte: buf[at],
-            reader: q,
-        };
-    }
-    Peeked {
-        byte: b'\n',
-        reader: q,
-    }
-}
-
-pub fn passed(mut r: Reader) -> Reader
-    ensures { result ≡ passed_of r }
-{
-    if r.at < r.end {
-        r.at = r.at + 1;
-    }
-    r
-}
-
-// The bytes up to a space or the line's end, at the start of letters; a fault where they fill it.
-pub fn first_word(buf: &mut [u8; 65536], r: Reader, letters: &mut [u8]) -> ReadWord
-    ensures { Onward r result.reader × IsPrefixLen result.len letters.new }
-{
-    let mut q = r;
-    let mut n: usize = 0;
-    while n < letters.len() {
-        let p = peek(buf, q);
-        let b = p.byte;
-        q = p.reader;
-        if ends_word(b) {
-            return ReadWord { len: n, reader: q };
-        }
-        letters[n] = b;
-        n += 1;
-        q = passed(q);
-    }
-    ReadWord {
-        len: 0,
-        reader: marked(q, true),
+impl Word for i32 {
+    fn said(word: &[u8]) -> Option<i32>
+        ensures { result ≡ whole_of word.now }
+    {
+        whole_in(word)
     }
 }
 
@@ -167,192 +62,175 @@ fn ends_word(b: u8) -> bool {
     b == b' ' || b == b'\n'
 }
 
-// The next word of the line, with a space before it.
-pub fn next_word(buf: &mut [u8; 65536], r: Reader, letters: &mut [u8]) -> ReadWord
-    ensures { Onward r result.reader × IsPrefixLen result.len letters.new }
-{
-    if r.fault {
-        return ReadWord { len: 0, reader: r };
-    }
-    let p = peek(buf, r);
-    let q = p.reader;
-    if p.byte != b' ' {
-        return ReadWord {
-            len: 0,
-            reader: marked(q, true),
-        };
-    }
-    first_word(buf, passed(q), letters)
-}
+impl Reader {
+    ghost use Rattle.lines.specs.Cursors.{Within, Front, Onward, next_byte, passed_of};
 
-// What a word says, with the reader that stands behind it.
-#[tactic(auto, unfolding(crate::specs::Words::float_read))]
-fn float_read(word: &[u8], r: Reader) -> ReadFloat
-    ensures { result ≡ float_read (hex_of word.now) r }
-{
-    match hex(word) {
-        Number::Value(bits) => ReadFloat {
-            value: float_of(bits),
-            reader: r,
-        },
-        Number::Nothing => ReadFloat {
-            value: 0.0,
-            reader: marked(r, true),
-        },
-    }
-}
-
-#[tactic(auto, unfolding(crate::specs::Words::count_read))]
-fn count_read(word: &[u8], r: Reader) -> ReadCount
-    ensures { result ≡ count_read (decimal_of word.now) r }
-{
-    match decimal(word) {
-        Number::Value(value) => ReadCount { value, reader: r },
-        Number::Nothing => ReadCount {
-            value: 0,
-            reader: marked(r, true),
-        },
-    }
-}
-
-#[tactic(auto, unfolding(crate::specs::Words::whole_read))]
-fn whole_read(word: &[u8], r: Reader) -> ReadWhole
-    ensures { result ≡ whole_read (whole_of word.now) r }
-{
-    match whole_in(word) {
-        Whole::Int(value) => ReadWhole { value, reader: r },
-        Whole::NoInt => ReadWhole {
-            value: 0,
-            reader: marked(r, true),
-        },
-    }
-}
-
-pub fn float(buf: &mut [u8; 65536], r: Reader) -> ReadFloat
-    ensures { Onward r result.reader }
-{
-    let mut letters = [0u8; 64];
-    let w = next_word(buf, r, &mut letters);
-    let n = w.len;
-    float_read(&letters[..n], w.reader)
-}
-
-pub fn count(buf: &mut [u8; 65536], r: Reader) -> ReadCount
-    ensures { Onward r result.reader }
-{
-    let mut letters = [0u8; 64];
-    let w = next_word(buf, r, &mut letters);
-    let n = w.len;
-    count_read(&letters[..n], w.reader)
-}
-
-pub fn whole(buf: &mut [u8; 65536], r: Reader) -> ReadWhole
-    ensures { Onward r result.reader }
-{
-    let mut letters = [0u8; 64];
-    let w = next_word(buf, r, &mut letters);
-    let n = w.len;
-    whole_read(&letters[..n], w.reader)
-}
-
-// A run of floats, at the start of run; a fault where it is too long, for run too.
-pub fn run(buf: &mut [u8; 65536], r: Reader, run: &mut [f64]) -> ReadRun
-    ensures onward { Onward r result.reader × (result.len ≤ 8192) }
-    ensures front { Front result.len run.new }
-{
-    let c = count(buf, r);
-    let q = c.reader;
-    if c.value > 8192 {
-        return ReadRun {
-            len: 0,
-            reader: marked(q, true),
-        };
-    }
-    let n = c.value as usize;
-    if n > run.len() {
-        return ReadRun {
-            len: 0,
-            reader: marked(q, true),
-        };
-    }
-    let reader = floats(buf, q, run, n);
-    ReadRun { len: n, reader }
-}
-
-fn floats(buf: &mut [u8; 65536], r: Reader, run: &mut [f64], n: usize) -> Reader
-    requires { n ≤ length run.old }
-    ensures { Onward r result × (length run.new ≡ length run.old) }
-{
-    let mut q = r;
-    let mut i: usize = 0;
-    while i < n {
-        let f = float(buf, q);
-        run[i] = f.value;
-        q = f.reader;
-        i += 1;
-    }
-    q
-}
-
-// A run of whole numbers, at the start of run; a fault where it is too long for that.
-pub fn wholes(buf: &mut [u8; 65536], r: Reader, run: &mut [i32]) -> ReadRun
-    ensures onward { Onward r result.reader × Front result.len run.new }
-    ensures run_len_unchanged { length run.new ≡ length run.old }
-{
-    let c = count(buf, r);
-    let q = c.reader;
-    if c.value > run.len() as u64 {
-        return ReadRun {
-            len: 0,
-            reader: marked(q, true),
-        };
-    }
-    let n = c.value as usize;
-    let reader = whole_words(buf, q, run, n);
-    ReadRun { len: n, reader }
-}
-
-fn whole_words(buf: &mut [u8; 65536], r: Reader, run: &mut [i32], n: usize) -> Reader
-    requires { n ≤ length run.old }
-    ensures { Onward r result × (length run.new ≡ length run.old) }
-{
-    let mut q = r;
-    let mut i: usize = 0;
-    while i < n {
-        let x = whole(buf, q);
-        let value = x.value;
-        run[i] = value;
-        q = x.reader;
-        i += 1;
-    }
-    q
-}
-
-// Past the line's end; a fault where words are left.
-pub fn end_line(buf: &mut [u8; 65536], r: Reader) -> Reader
-    ensures { Onward r result }
-{
-    let p = peek(buf, r);
-    let q = p.reader;
-    if p.byte == b'\n' {
-        return passed(q);
-    }
-    marked(skip_line(buf, q), true)
-}
-
-fn skip_line(buf: &mut [u8; 65536], r: Reader) -> Reader
-    ensures { Onward r result }
-{
-    let mut q = r;
-    let mut turns: u64 = 0x7fff_ffff_ffff_ffff;
-    while turns > 0 {
-        let p = peek(buf, q);
-        let b = p.byte;
-        q = passed(p.reader);
-        if b == b'\n' {
-            return q;
+    pub fn new(stdin: Stdin) -> Reader
+        ensures places { (result.at ≡ 0) × (result.end ≡ 0) }
+        ensures over { result.over ≡ false }
+    {
+        Reader {
+            stdin,
+            buf: io::large_buffer(),
+            at: 0,
+            end: 0,
+            over: false,
         }
-        turns -= 1;
     }
-    q
+
+    // Where all that was read is used up, more is read.
+    fn fill(&mut self)
+        ensures { Onward self.old self.new }
+    {
+        if self.at < self.end || self.over {
+            return;
+        }
+        self.at = 0;
+        self.end = self.stdin.read(&mut self.buf).unwrap_or(0);
+        self.over = self.end == 0;
+    }
+
+    /// The byte that stands next, which is not passed; a line's end where the input is over.
+    pub fn peek(&mut self) -> u8
+        ensures onward { Onward self.old self.new × Within self.new }
+        ensures byte_value { result ≡ next_byte self.new }
+    {
+        self.fill();
+        if self.at < self.end {
+            self.buf[self.at]
+        } else {
+            b'\n'
+        }
+    }
+
+    /// Past the byte that stands next, where one is left.
+    pub fn pass(&mut self)
+        ensures at { self.new.at ≡ passed_of self.old }
+        ensures kept { (self.new.stdin ≡ self.old.stdin) × (self.new.buf ≡ self.old.buf) × (self.new.end ≡ self.old.end) × (self.new.over ≡ self.old.over) }
+    {
+        if self.at < self.end {
+            self.at += 1;
+        }
+    }
+
+    /// The bytes up to a space or the line's end, at the start of letters; None where they fill it.
+    pub fn first_word(&mut self, letters: &mut [u8]) -> Option<usize>
+        ensures onward { Onward self.old self.new }
+        ensures word { IfSome result (λ n. IsPrefixLen n letters.new) }
+    {
+        for (n, letter) in letters.iter_mut().enumerate() {
+            let b = self.peek();
+            if ends_word(b) {
+                return Some(n);
+            }
+            *letter = b;
+            self.pass();
+        }
+        None
+    }
+
+    /// The next word of the line, with a space before it.
+    pub fn next_word(&mut self, letters: &mut [u8]) -> Option<usize>
+        ensures onward { Onward self.old self.new }
+        ensures word { IfSome result (λ n. IsPrefixLen n letters.new) }
+    {
+        if self.peek() != b' ' {
+            return None;
+        }
+        self.pass();
+        self.first_word(letters)
+    }
+
+    fn word<W: Word>(&mut self) -> Option<W>
+        ensures { Onward self.old self.new }
+    {
+        let mut letters = [0u8; 64];
+        let n = self.next_word(&mut letters)?;
+        W::said(&letters[..n])
+    }
+
+    pub fn float(&mut self) -> Option<f64>
+        ensures { Onward self.old self.new }
+    {
+        self.word()
+    }
+
+    pub fn count(&mut self) -> Option<u64>
+        ensures { Onward self.old self.new }
+    {
+        self.word()
+    }
+
+    pub fn whole(&mut self) -> Option<i32>
+        ensures { Onward self.old self.new }
+    {
+        self.word()
+    }
+
+    /// How many words or rows follow; None where they are more than `most`.
+    pub fn length(&mut self, most: usize) -> Option<usize>
+        ensures onward { Onward self.old self.new }
+        ensures within { IfSome result (λ n. n ≤ most) }
+    {
+        let n = self.count()?;
+        if n > most as u64 {
+            return None;
+        }
+        Some(n as usize)
+    }
+
+    // A run's length and then its words, at the start of run; None where it is too long.
+    fn run<W: Word>(&mut self, run: &mut [W], longest: usize) -> Option<usize>
+        ensures onward { Onward self.old self.new }
+        ensures front { IfSome result (λ n. Front n run.new × (n ≤ longest)) }
+        ensures run_len_unchanged { length run.new ≡ length run.old }
+    {
+        let n = self.length(longest.min(run.len()))?;
+        for place in run[..n].iter_mut() {
+            *place = self.word()?;
+        }
+        Some(n)
+    }
+
+    /// A run of floats, at the start of run; None where it is too long, for run too.
+    pub fn floats(&mut self, run: &mut [f64]) -> Option<usize>
+        ensures onward { Onward self.old self.new }
+        ensures front { IfSome result (λ n. Front n run.new × (n ≤ 8192)) }
+    {
+        self.run(run, LONGEST_RUN)
+    }
+
+    /// A run of whole numbers, at the start of run; None where it is too long for that.
+    pub fn wholes(&mut self, run: &mut [i32]) -> Option<usize>
+        ensures onward { Onward self.old self.new }
+        ensures front { IfSome result (λ n. Front n run.new) }
+        ensures run_len_unchanged { length run.new ≡ length run.old }
+    {
+        let longest = run.len();
+        self.run(run, longest)
+    }
+
+    /// Past the line's end; None where words are left, of which none is passed.
+    pub fn end_line(&mut self) -> Option<()>
+        ensures { Onward self.old self.new }
+    {
+        if self.peek() != b'\n' {
+            return None;
+        }
+        self.pass();
+        Some(())
+    }
+
+    /// Past the line's end, and all words before it.
+    pub fn skip_line(&mut self)
+        ensures { Onward self.old self.new }
+    {
+        for _ in 0..u64::MAX {
+            let b = self.peek();
+            self.pass();
+            if b == b'\n' {
+                return;
+            }
+        }
+    }
 }

@@ -1,113 +1,20 @@
-// Standard output through a buffer, which goes out when it is full and where flush is called.
-ghost use Rattle.std.specs.Prelude.{◌≡◌, false, cond, ◌+◌, set};
+//! Standard output through a buffer, which goes out when it is full and where flush is called.
+ghost use Rattle.std.specs.Prelude.{◌≡◌, false, cond, ◌+◌, ◌≤◌, set};
 ghost use Rattle.float_bits.specs.Unsigned.{unsigned};
-ghost use Rattle.lines.specs.Cursors.{Kept, place_of};
 
 use float_bits::{bits_of, computed};
 use hex_text::spell;
 use std::io::{Stdout, Write};
 use wholes::size;
 
-// How much of the buffer waits, and whether a write failed.
-#[derive(Clone, Copy)]
+/// The first `at` bytes of the buffer wait. Once a write has failed, nothing is written.
+#[derive(Drop)]
 pub struct Writer {
     pub stdout: Stdout,
+    pub buf: [u8; 65536],
     pub at: usize,
     pub failed: bool,
-}
-
-pub fn start(stdout: Stdout) -> Writer
-    ensures { result ≡ record { stdout = stdout; at = 0; failed = false } }
-{
-    Writer {
-        stdout,
-        at: 0,
-        failed: false,
-    }
-}
-
-fn sent(buf: &[u8], n: usize, mut stdout: Stdout) -> bool {
-    if n <= buf.len() {
-        return stdout.write_all(&buf[..n]).is_ok();
-    }
-    false
-}
-
-pub fn flush(buf: &[u8; 65536], w: Writer) -> Writer
-    ensures { Kept w result × (result.at ≡ 0) }
-{
-    if w.failed {
-        return Writer {
-            stdout: w.stdout,
-            at: 0,
-            failed: true,
-        };
-    }
-    let is_sent = sent(buf, w.at, w.stdout);
-    Writer {
-        stdout: w.stdout,
-        at: 0,
-        failed: !is_sent,
-    }
-}
-
-pub fn byte(buf: &mut [u8; 65536], w: Writer, b: u8) -> Writer
-    ensures kept { Kept w result × (result.at ≡ place_of w + 1) }
-    ensures buf_after { buf.new ≡ set buf.old (place_of w) b }
-{
-    let at = w.at;
-    if at < 65536 {
-        buf[at] = b;
-        return Writer {
-            stdout: w.stdout,
-            at: at + 1,
-            failed: w.failed,
-        };
-    }
-    let q = flush(buf, w);
-    buf[0] = b;
-    Writer {
-        stdout: w.stdout,
-        at: 1,
-        failed: q.failed,
-    }
-}
-
-pub fn text(buf: &mut [u8; 65536], w: Writer, bytes: &[u8]) -> Writer
-    ensures { Kept w result }
-{
-    let mut q = w;
-    let mut i: usize = 0;
-    while i < bytes.len() {
-        q = byte(buf, q, bytes[i]);
-        i += 1;
-    }
-    q
-}
-
-pub fn decimal(buf: &mut [u8; 65536], w: Writer, n: u64) -> Writer
-    ensures { Kept w result }
-{
-    let mut letters = [0u8; 20];
-    let k = io::decimal(n, &mut letters);
-    text(buf, w, &letters[..k])
-}
-
-pub fn whole(buf: &mut [u8; 65536], w: Writer, x: i32) -> Writer
-    ensures { Kept w result }
-{
-    if x < 0 {
-        let q = byte(buf, w, b'-');
-        return decimal(buf, q, size(x));
-    }
-    decimal(buf, w, size(x))
-}
-
-pub fn float(buf: &mut [u8; 65536], w: Writer, x: f64) -> Writer
-    ensures { Kept w result }
-{
-    let letters = spell(bits_of(x));
-    text(buf, w, &letters)
+    pub ghost waits: { at ≤ 65536 },
 }
 
 // A place of a run as it is written: by the sign of a zero where it was not computed.
@@ -117,16 +24,104 @@ fn place(x: f64, is_computed: bool) -> f64
     if is_computed { computed(x) } else { x }
 }
 
-// A run, of which the first places were computed and the others kept.
-pub fn run(buf: &mut [u8; 65536], w: Writer, xs: &[f64], computed: usize) -> Writer
-    ensures { Kept w result }
-{
-    let mut q = decimal(buf, w, xs.len() as u64);
-    let mut i: usize = 0;
-    while i < xs.len() {
-        q = byte(buf, q, b' ');
-        q = float(buf, q, place(xs[i], i < computed));
-        i += 1;
+impl Writer {
+    ghost use Rattle.lines.specs.Cursors.{Kept, place_of};
+
+    pub fn new(stdout: Stdout) -> Writer
+        ensures at { result.at ≡ 0 }
+        ensures failed { result.failed ≡ false }
+    {
+        Writer {
+            stdout,
+            buf: io::large_buffer(),
+            at: 0,
+            failed: false,
+        }
     }
-    q
+
+    pub fn flush(&mut self)
+        ensures kept { Kept self.old self.new × (self.new.at ≡ 0) }
+        ensures buf_unchanged { self.new.buf ≡ self.old.buf }
+    {
+        self.failed = self.failed || self.stdout.write_all(&self.buf[..self.at]).is_err();
+        self.at = 0;
+    }
+
+    pub fn byte(&mut self, b: u8)
+        ensures kept { Kept self.old self.new × (self.new.at ≡ place_of self.old + 1) }
+        ensures buf_after { self.new.buf ≡ set self.old.buf (place_of self.old) b }
+    {
+        if self.at == self.buf.len() {
+            self.flush();
+        }
+        self.buf[self.at] = b;
+        self.at += 1;
+    }
+
+    pub fn text(&mut self, bytes: &[u8])
+        ensures { Kept self.old self.new }
+    {
+        for b in bytes {
+            self.byte(*b);
+        }
+    }
+
+    pub fn decimal(&mut self, n: u64)
+        ensures { Kept self.old self.new }
+    {
+        let mut letters = [0u8; 20];
+        let k = io::decimal(n, &mut letters);
+        self.text(&letters[..k]);
+    }
+
+    pub fn whole(&mut self, x: i32)
+        ensures { Kept self.old self.new }
+    {
+        if x < 0 {
+            self.byte(b'-');
+        }
+        self.decimal(size(x));
+    }
+
+    pub fn float(&mut self, x: f64)
+        ensures { Kept self.old self.new }
+    {
+        let letters = spell(bits_of(x));
+        self.text(&letters);
+    }
+
+    /// A run, of which the first `computed` places were computed and the others kept.
+    pub fn run(&mut self, xs: &[f64], computed: usize)
+        ensures { Kept self.old self.new }
+    {
+        self.decimal(xs.len() as u64);
+        for (i, x) in xs.iter().enumerate() {
+            self.byte(b' ');
+            self.float(place(*x, i < computed));
+        }
+    }
+
+    /// A word that is a count, with the space before it.
+    pub fn next_decimal(&mut self, n: u64)
+        ensures { Kept self.old self.new }
+    {
+        self.byte(b' ');
+        self.decimal(n);
+    }
+
+    /// A word that is a whole number, with the space before it.
+    pub fn next_whole(&mut self, x: i32)
+        ensures { Kept self.old self.new }
+    {
+        self.byte(b' ');
+        self.whole(x);
+    }
+
+    /// A word that is a float, with the space before it.
+    pub fn next_float(&mut self, x: f64)
+        ensures { Kept self.old self.new }
+    {
+        self.byte(b' ');
+        self.float(x);
+    }
 }

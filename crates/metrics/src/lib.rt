@@ -1,5 +1,5 @@
-// The accumulator of the public module: its state, its counts, MOTA and MOTP.
-// Ported from norfair-rs, metrics/accumulator.rs (NOTICE).
+//! The accumulator of the public module: its state, its counts, MOTA and MOTP.
+//! Ported from norfair-rs, metrics/accumulator.rs (NOTICE).
 #![tactic(auto)]
 
 ghost use Rattle.std.specs.Prelude.{◌≡◌, true};
@@ -13,7 +13,7 @@ use events::{Log, Tally};
 use partners::Truths;
 use seen::Hypotheses;
 
-// The events so far; the truth ids seen, each with its last partner; and the hypothesis ids seen.
+/// The events so far; the truth ids seen, each with its last partner; and the hypothesis ids seen.
 #[derive(Clone, Copy)]
 pub struct MOTAccumulator {
     pub log: Log,
@@ -21,6 +21,7 @@ pub struct MOTAccumulator {
     pub hypotheses: Hypotheses,
 }
 
+/// What an event of the log is.
 #[derive(Clone, Copy)]
 pub enum EventType {
     Match,
@@ -29,13 +30,16 @@ pub enum EventType {
     Switch,
 }
 
-// A number, and a count or a score; beside a refusal it is 0.
+/// A number, and a count; beside a refusal it is 0.
+// Kept: a refusal is a number beside the value at each public call, for C callers too.
 #[derive(Clone, Copy)]
 pub struct Count {
     pub number: u32,
     pub value: usize,
 }
 
+/// A number, and a score; beside a refusal it is 0.
+// Kept: a refusal is a number beside the value at each public call, for C callers too.
 #[derive(Clone, Copy)]
 pub struct Score {
     pub number: u32,
@@ -57,55 +61,49 @@ fn counted(sound: bool, n: usize) -> Count
     ensures { result ≡ size_is sound n }
 {
     if sound {
-        return Count {
+        Count {
             number: 0,
             value: n,
-        };
-    }
-    Count {
-        number: 1,
-        value: 0,
+        }
+    } else {
+        Count {
+            number: 1,
+            value: 0,
+        }
     }
 }
 
 impl MOTAccumulator {
+    /// No event, and no id seen.
     pub fn new() -> Self
         ensures { result ≡ new_state }
     {
-        let log = events::new_log();
-        let truths = Truths::new();
-        let hypotheses = Hypotheses::new();
         Self {
-            log: log,
-            truths: truths,
-            hypotheses: hypotheses,
+            log: events::new_log(),
+            truths: Truths::new(),
+            hypotheses: Hypotheses::new(),
         }
     }
 
-    // Whether a state that is handed in is one that refusal 1 lets by.
+    /// Whether a state that is handed in is one that refusal 1 lets by.
+    #[tactic(auto, unfolding(crate::specs::State::sound_state))]
     pub fn sound(self) -> bool
         ensures { result ≡ sound_state self }
     {
-        if self.log.used > 1024 {
-            return false;
-        }
-        if !partners::truths_sound(self.truths) {
-            return false;
-        }
-        seen::hypotheses_sound(self.hypotheses)
+        self.log.used <= 1024
+            && partners::truths_sound(self.truths)
+            && seen::hypotheses_sound(self.hypotheses)
     }
 
-    // The events counted and summed, of a state that is sound.
+    /// The events counted and summed, of a state that is sound.
     pub fn tally(self) -> Tally
         requires { sound_state self ≡ true }
         ensures { (result ≡ tally_of (logged self.log)) × Few result }
     {
-        let log = self.log;
-        let events = log.events;
-        events::tallied(events, log.used)
+        events::tallied(self.log.events, self.log.used)
     }
 
-    // How many events are of a type.
+    /// How many events are of a type.
     pub fn count_events(self, event_type: EventType) -> Count
         ensures { result ≡ counted_of self event_type }
     {
@@ -121,7 +119,7 @@ impl MOTAccumulator {
         }
     }
 
-    // Switches are not among them.
+    /// Switches are not among them.
     pub fn num_matches(self) -> Count
         ensures { result ≡ counted_of self EventType.Match }
     {
@@ -173,7 +171,7 @@ impl MOTAccumulator {
         }
     }
 
-    // The mean IoU of the pairs, 1.0 less each stored distance.
+    /// The mean IoU of the pairs, 1.0 less each stored distance.
     pub fn motp(self) -> Score
         ensures { result ≡ score_is (sound_state self) (iou_mean (tally_of (logged self.log))) }
     {

@@ -1,10 +1,12 @@
 -- Document 01, "Lifecycles and events" and "Numbers given back": a frame of module 4 whose pairing is there, booked in any state.
-use Rattle.std.specs.Prelude.{cond, List, ℕ, ◌+◌, ◌≤◌, eqb, ltb, ℤ, length, take, Float}
+use Rattle.std.specs.Prelude.{cond, Result, Ok, Err, List, ℕ, ◌+◌, ◌≤◌, eqb, ltb, ℤ, length, take, Float}
+use Rattle.refusals.specs.declared.Refusal.{Refusal}
+use Rattle.refusals.specs.Refusals.{number_of}
 use Rattle.events.specs.declared.Event.{Event}
-use Rattle.seen.specs.declared.SeenHypotheses.{SeenHypotheses}
+use Rattle.seen.specs.Seen.{SeenHypotheses}
 use Rattle.seen.specs.Seen.{seen_hypotheses}
-use Rattle.partners.specs.declared.Booked.{Booked}
-use Rattle.partners.specs.declared.SeenTruths.{SeenTruths}
+use Rattle.partners.specs.Partners.{Booked}
+use Rattle.partners.specs.Partners.{SeenTruths}
 use Rattle.partners.specs.declared.Truths.{Truths}
 use Rattle.partners.specs.Partners.{pairs_of, booked_of, seen_truths}
 use Rattle.greedy.specs.declared.Pairing.{Pairing}
@@ -24,6 +26,11 @@ refused_at number s = record { number = number; state = s }
 
 abbrev pub closed_at : ℕ → MOTAccumulator → MOTAccumulator → Updated
 closed_at number s next = record { number = number; state = cond (eqb number 0) next s }
+
+-- an answer, read as what a call gives
+abbrev pub updated : MOTAccumulator → Result MOTAccumulator Refusal → Updated
+updated s (Ok next) = record { number = 0; state = next }
+updated s (Err r) = refused_at (number_of r) s
 
 -- ---- a pairing, booked
 -- "It records seen ids on empty sides also": all ids of both sides, before the pairs are looked at

@@ -15,10 +15,10 @@ use Rattle.matrix.specs.declared.Measure.TheVariants.{Shared}
 use Rattle.shape.specs.Shape.{shape_no}
 use Rattle.events.specs.declared.Event.{Event}
 use Rattle.seen.specs.declared.Hypotheses.{Hypotheses}
-use Rattle.seen.specs.declared.SeenHypotheses.{SeenHypotheses}
+use Rattle.seen.specs.Seen.{SeenHypotheses}
 use Rattle.seen.specs.Seen.{seen_by, seen_all, seen_hypotheses}
-use Rattle.partners.specs.declared.Booked.{Booked}
-use Rattle.partners.specs.declared.SeenTruths.{SeenTruths}
+use Rattle.partners.specs.Partners.{Booked}
+use Rattle.partners.specs.Partners.{SeenTruths}
 use Rattle.partners.specs.Partners.{pairs_of, seen_truths}
 use Rattle.partners.proofs.Meaning.{seen_few}
 use Rattle.greedy.specs.declared.Pairing.{Pairing}

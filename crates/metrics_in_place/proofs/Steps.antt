@@ -15,7 +15,7 @@ use Rattle.events.specs.declared.Event.{Event}
 use Rattle.seen.specs.declared.Hypotheses.{Hypotheses}
 use Rattle.seen.specs.Seen.{seen_all, hypotheses_of, seen_hypotheses}
 use Rattle.partners.specs.declared.Truths.{Truths}
-use Rattle.partners.specs.declared.Booked as partners
+use Rattle.partners.specs.Partners as partners
 use Rattle.partners.specs.Partners.{Pair, pairs_of, booked_of, seen_truths}
 use Rattle.greedy.specs.declared.Pairing.{Pairing}
 use Rattle.greedy.specs.Greedy.{Fitting}

@@ -22,8 +22,8 @@ use Rattle.seen.specs.Seen.{seen_all, over}
 use Rattle.seen.specs.Holds.{Holds}
 use Rattle.seen.proofs.Distinct.{all_seen, none_new}
 use Rattle.partners.specs.declared.Truths.{Truths}
-use Rattle.partners.specs.declared.SeenTruths.{SeenTruths}
-use Rattle.partners.specs.declared.Booked.{Booked}
+use Rattle.partners.specs.Partners.{SeenTruths}
+use Rattle.partners.specs.Partners.{Booked}
 use Rattle.partners.specs.Partners.{Pair, pair_at, pairs_of, last_of, match_all, switches_of, table_of, with_table, none, booked_of, seen_table, seen_truths}
 use Rattle.partners.proofs.Meaning.{truth_of, no_pair, ids_are, switch_at, flags_long}
 use Rattle.greedy.specs.declared.Pairing.{Pairing}

@@ -11,7 +11,7 @@ use lib.ListN.{length, take}
 use lib.Ieee.{Float}
 use Rattle.square.proofs.Truth.{dec}
 use Rattle.events.specs.declared.Event.{Event}
-use Rattle.partners.specs.declared.Booked.{Booked}
+use Rattle.partners.specs.Partners.{Booked}
 use Rattle.partners.specs.Partners.{pairs_of}
 use Rattle.greedy_pairs.specs.Pairs.{by_distance}
 use Rattle.booking.specs.Booking.{events_of, log_after}

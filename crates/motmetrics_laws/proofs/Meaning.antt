@@ -17,7 +17,7 @@ use Rattle.sorting.specs.Order.{Each, key_of}
 use Rattle.sorting.specs.Sort.{sort_of}
 use Rattle.sorting.proofs.Permutes.{each_at, each_still}
 use Rattle.slots.specs.Slots.{switches}
-use Rattle.partners.specs.declared.Booked.{Booked}
+use Rattle.partners.specs.Partners.{Booked}
 use Rattle.partners.specs.Partners.{last_of, match_all, table_of}
 use Rattle.greedy.specs.declared.Pairing.{Pairing}
 use Rattle.greedy.specs.Greedy.{taken_of, Fitting}

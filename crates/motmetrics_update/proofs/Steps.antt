@@ -10,7 +10,7 @@ use lib.Ieee.{Float}
 use Rattle.sizes.specs.Sizes.{shape_no}
 use Rattle.sizes.proofs.Shape.{Shaped, well_shaped}
 use Rattle.events.specs.declared.Log.{Log}
-use Rattle.partners.specs.declared.Booked.{Booked}
+use Rattle.partners.specs.Partners.{Booked}
 use Rattle.greedy.specs.declared.Pairing.{Pairing}
 use Rattle.greedy.specs.Greedy.{Fitting}
 use Rattle.greedy_pairs.specs.Pairs.{by_distance}

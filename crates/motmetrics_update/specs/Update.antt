@@ -2,7 +2,7 @@
 use Rattle.std.specs.Prelude.{cond, List, ℕ, ◌+◌, eqb, ltb, ℤ, length, take, Float}
 use Rattle.sizes.specs.Sizes.{shape_no}
 use Rattle.events.specs.declared.Event.{Event}
-use Rattle.partners.specs.declared.Booked.{Booked}
+use Rattle.partners.specs.Partners.{Booked}
 use Rattle.partners.specs.Partners.{pairs_of, booked_of}
 use Rattle.greedy.specs.declared.Pairing.{Pairing}
 use Rattle.greedy_pairs.specs.Pairs.{by_distance}

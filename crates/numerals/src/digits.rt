@@ -1,94 +1,53 @@
-// What the digits of a word say.
-ghost use Rattle.std.specs.Prelude.{◌≡◌};
-ghost use Rattle.numerals.specs.Numbers.{digit_of, value_from, hex_of, decimal_of};
+//! What the digits of a word say.
+ghost use Rattle.std.specs.Prelude.{◌≡◌, ◌≤◌};
+ghost use Rattle.numerals.specs.Numbers.{digit_found, value_from, hex_of, decimal_of};
 
-#[derive(Clone, Copy)]
-pub enum Number {
-    Value(u64),
-    Nothing,
-}
-
-// The value of a digit, those above 9 in lower case; 16 where the byte is none.
-#[tactic(auto, unfolding(crate::specs::Numbers::digit_of))]
-pub fn digit(b: u8) -> u64
-    ensures { result ≡ digit_of b }
+/// The value of a digit, those above 9 in lower case; `None` where the byte is no digit.
+#[tactic(auto, unfolding(crate::specs::Numbers::digit_found, crate::specs::Numbers::digit_of))]
+pub fn digit(b: u8) -> Option<u64>
+    ensures { result ≡ digit_found b }
 {
-    if b < 48 {
-        return 16;
+    match b {
+        b'0'..=b'9' => Some(u64::from(b - b'0')),
+        b'a'..=b'f' => Some(u64::from(b - b'a') + 10),
+        _ => None,
     }
-    if b < 58 {
-        return (b - 48) as u64;
-    }
-    if b < 97 {
-        return 16;
-    }
-    if b < 103 {
-        return (b - 87) as u64;
-    }
-    16
 }
 
-// Two functions and no base as a parameter: a division by a variable would cost the most of a read.
-fn value_16(word: &[u8]) -> Number
-    ensures { result ≡ value_from 16 0 word.now }
+// The base is a const parameter, so that the test for what does not fit divides by a constant.
+fn value<const BASE: u64>(word: &[u8]) -> Option<u64>
+    requires { BASE ≤ 16 }
+    ensures { result ≡ value_from BASE 0 word.now }
 {
     let mut v: u64 = 0;
-    let mut i = 0;
-    while i < word.len() {
-        let d = digit(word[i]);
-        if d > 15 {
-            return Number::Nothing;
+    for b in word {
+        let d = digit(*b)?;
+        if d >= BASE {
+            return None;
         }
-        if v > 0x0fff_ffff_ffff_ffff {
-            return Number::Nothing;
-        }
-        v = v * 16 + d;
-        i += 1;
+        v = v.checked_mul(BASE)?.checked_add(d)?;
     }
-    Number::Value(v)
+    Some(v)
 }
 
-fn value_10(word: &[u8]) -> Number
-    ensures { result ≡ value_from 10 0 word.now }
-{
-    let mut v: u64 = 0;
-    let mut i = 0;
-    while i < word.len() {
-        let d = digit(word[i]);
-        if d > 9 {
-            return Number::Nothing;
-        }
-        if v > 1844674407370955161 {
-            return Number::Nothing;
-        }
-        let tens = v * 10;
-        if d > 0xffff_ffff_ffff_ffff - tens {
-            return Number::Nothing;
-        }
-        v = tens + d;
-        i += 1;
-    }
-    Number::Value(v)
-}
-
-// A word of 16 hexadecimal digits.
+/// The value of a word of 16 hexadecimal digits.
 #[tactic(auto, unfolding(crate::specs::Numbers::hex_of))]
-pub fn hex(word: &[u8]) -> Number
+pub fn hex(word: &[u8]) -> Option<u64>
     ensures { result ≡ hex_of word.now }
 {
     if word.len() != 16 {
-        return Number::Nothing;
+        return None;
     }
-    value_16(word)
+    value::<16>(word)
 }
 
-// A word of decimal digits. Zeros in front change nothing.
+/// The value of a word of decimal digits. Zeros in front change nothing.
 #[tactic(auto, unfolding(crate::specs::Numbers::decimal_of))]
-pub fn decimal(word: &[u8]) -> Number
+pub fn decimal(word: &[u8]) -> Option<u64>
     ensures { result ≡ decimal_of word.now }
 {
-    if word.len() == 0 {
-        return Number::Nothing;
+    if word.is_empty() {
+        return None;
     }
-    value_10(word)
+    value::<10>(word)
 }

@@ -1,35 +1,20 @@
--- Places taken by ids that are new: nobody in each, one after the other. Assumes nothing.
-use mathlib.Core.Path.{◌≡◌, refl, sym, ap, ◌∙◌}
-use mathlib.Core.List.{List, [], ◌∷◌, ◌++◌, append_assoc, append-nil}
-use Prim.Native.Nat.{ℕ, ◌<◌, ◌≤◌, ◌+◌, ◌-◌}
-use native.Mathlib.Nat.{sub_self}
-use native.Mathlib.Omega.{arith}
-use native.Mathlib.Numerals.{add-one}
-use lib.ListN.{length, take, drop, set, replicate, length-set, replicate-append-replicate}
-use lib.Seq.{take-suc-set, drop-set-lt}
+-- Places taken by ids that are new: nobody in each. Assumes nothing.
+use Rattle.std.proofs.Common.{◌≡◌, ℕ, ◌+◌, ◌-◌, ◌≤◌, List, ◌++◌, length, take, drop, replicate, sym, ap, ◌∙◌, append_assoc, arith, length-append, length-drop}
+use borrow.Rule.Slice.PartMut.{put_mid}
+use lib.ListN.{length-replicate}
+use lib.Seq.{length-take-le, drop-drop}
 use Rattle.seen.specs.Seen.{over}
-use Rattle.seen.proofs.Growth.{drop_more, over_front}
 
-module _ {A : Type 0} (x : A) where
-  -- x stands from one place on and before k
-  abbrev pub Filled : List A → ℕ → ℕ → List A → Type 0
-  Filled old from k l = (length l ≡ length old) × (take k l ≡ take from old ++ replicate (k - from) x) × (drop k l ≡ drop k old)
-
-  pub none_filled : (old : List A) (from : ℕ) → Filled old from from old
-  none_filled old from = (refl, sym (rw (sub_self from) (append-nil (take from old))), refl)
-
-  pub one_filled : (old : List A) (from k : ℕ) (l : List A) → Filled old from k l → from ≤ k → k < length old → Filled old from (k + 1) (set l k x)
-  one_filled old from k l f h n =
-      let e : (k - from) + 1 ≡ (k + 1) - from = omega arith in
-      let m = f.0 in (
-        length-set l k x ∙ m,
-        (ap (λ (z : ℕ). take z (set l k x)) (add-one k) ∙ take-suc-set l k x (omega arith))
-            ∙ (ap (λ (y : List A). y ++ (x ∷ [])) f.1
-            ∙ (append_assoc (take from old) (replicate (k - from) x) (x ∷ [])
-            ∙ ap (λ (y : List A). take from old ++ y) (replicate-append-replicate (k - from) 1 x ∙ ap (λ (z : ℕ). replicate z x) e))),
-        drop-set-lt (k + 1) l k x (omega arith) ∙ drop_more l old k (k + 1) (omega arith) f.2,
-      )
-
-  pub all_filled : (old : List A) (from k : ℕ) (l : List A) → Filled old from k l → k ≤ length old → l ≡ over (take from old ++ replicate (k - from) x) old
-  all_filled old from k l f h =
-      let m = f.0 in over_front l old k (omega arith) f.2 ∙ ap (λ (y : List A). over y old) f.1
+-- x written at the places from one on and before another
+pub filled : {A : Type 0} (x : A) (old middle : List A) (from to : ℕ) → from ≤ to → to ≤ length old → middle ≡ replicate (length (take (to - from) (drop from old))) x
+    → put_mid from (to - from) old middle ≡ over (take from old ++ replicate (to - from) x) old
+filled x old middle from to h k e =
+    let d = length-drop from old in
+    let n = length-take-le (to - from) (drop from old) (omega arith) in
+    let m : middle ≡ replicate (to - from) x = e ∙ ap (λ (z : ℕ). replicate z x) n in
+    let t = length-take-le from old (omega arith) in
+    let r = length-replicate (to - from) x in
+    let a = length-append (take from old) (replicate (to - from) x) in
+    let z : from + (to - from) ≡ length (take from old ++ replicate (to - from) x) = omega arith in
+    sym (append_assoc (take from old) middle (drop (to - from) (drop from old)))
+    ∙ (λ j. (take from old ++ m j) ++ (drop-drop (to - from) from old ∙ ap (λ (y : ℕ). drop y old) z) j)

@@ -1,5 +1,5 @@
 -- The table read as a map: after a pair its truth id's last partner is its hypothesis, and every other id keeps its own. Assumes nothing.
-use Rattle.std.specs.Prelude.{Some}
+use Rattle.std.specs.Prelude.{Option, Some}
 use mathlib.Core.Path.{◌≡◌, refl, sym, ap, ◌∙◌}
 use mathlib.Core.Bool.{Bool, true, false, cond, true≢false}
 use mathlib.Core.List.{List, [], ◌∷◌, ◌++◌}
@@ -15,7 +15,6 @@ use Rattle.ids.specs.declared.Lookup.TheVariants.{At, Absent}
 use Rattle.ids.specs.Ids.{seek_from, seek_of}
 use Rattle.ids.proofs.Lookups.{found_below}
 use Rattle.seen.proofs.Growth.{found_there}
-use Rattle.partners.specs.declared.Last.{Last}
 use Rattle.partners.specs.Partners.{nobody, last_is, Pair, Table, last_at, last_of, match_at, match_one}
 
 -- ---- a lookup in a list with one more
@@ -48,17 +47,17 @@ seek_other i (y ∷ ys) x id d e =
 
 -- ---- one pair
 module _ (t : Table) (p : Pair) (l : length t.lasts ≡ length t.ids) where
-  abbrev next : Last
+  abbrev next : Option ℤ
   next = last_is p.hypothesis
 
   set_at : (o : Lookup) → seek_of t.ids p.truth ≡ o → last_of (match_at t p o) p.truth ≡ Some p.hypothesis
   unfolding match_at
   set_at (At k) e =
       let h = found_below 0 t.ids p.truth k e in
-      ap (last_at (set t.lasts k next)) e ∙ ap (λ (x : Last). x.partner) (get_or-set_same t.lasts k next nobody (omega arith))
+      ap (last_at (set t.lasts k next)) e ∙ ap (λ (x : Option ℤ). x) (get_or-set_same t.lasts k next nobody (omega arith))
   set_at Absent e =
       ap (last_at (t.lasts ++ (next ∷ []))) (seek_last 0 t.ids p.truth e)
-      ∙ ap (λ (x : Last). x.partner) (get_or_at t.lasts next [] nobody (0 + length t.ids) (omega arith))
+      ∙ ap (λ (x : Option ℤ). x) (get_or_at t.lasts next [] nobody (0 + length t.ids) (omega arith))
 
   pub last_set : last_of (match_one t p) p.truth ≡ Some p.hypothesis
   last_set = set_at (seek_of t.ids p.truth) refl
@@ -73,12 +72,12 @@ module _ (t : Table) (p : Pair) (l : length t.lasts ≡ length t.ids) where
     unfolding match_at
     keep_at (At k) (At j) e g =
         ap (last_at (set t.lasts k next)) g
-        ∙ (ap (λ (x : Last). x.partner) (get_or-set_other t.lasts k j next nobody (apart k j e g)) ∙ ap (last_at t.lasts) (sym g))
+        ∙ (ap (λ (x : Option ℤ). x) (get_or-set_other t.lasts k j next nobody (apart k j e g)) ∙ ap (last_at t.lasts) (sym g))
     keep_at (At k) Absent e g = ap (last_at (set t.lasts k next)) g ∙ ap (last_at t.lasts) (sym g)
     keep_at Absent (At j) e g =
         let h = found_below 0 t.ids id j g in
         ap (last_at (t.lasts ++ (next ∷ []))) (seek_found 0 t.ids (p.truth ∷ []) id j g)
-        ∙ (ap (λ (x : Last). x.partner) (get_or-append t.lasts (next ∷ []) nobody j (omega arith)) ∙ ap (last_at t.lasts) (sym g))
+        ∙ (ap (λ (x : Option ℤ). x) (get_or-append t.lasts (next ∷ []) nobody j (omega arith)) ∙ ap (last_at t.lasts) (sym g))
     keep_at Absent Absent e g =
         ap (last_at (t.lasts ++ (next ∷ []))) (seek_other 0 t.ids p.truth id d g) ∙ ap (last_at t.lasts) (sym g)
 

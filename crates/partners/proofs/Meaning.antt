@@ -19,9 +19,7 @@ use Rattle.slots.specs.Slots.{switches}
 use Rattle.seen.specs.Seen.{seen_all}
 use Rattle.seen.proofs.Distinct.{all_once}
 use Rattle.partners.specs.declared.Truths.{Truths}
-use Rattle.partners.specs.declared.SeenTruths.{SeenTruths}
-use Rattle.partners.specs.declared.Booked.{Booked}
-use Rattle.partners.specs.Partners.{last_is, Pair, Table, last_of, match_at, match_one, match_all, switches_of, table_of, with_table, seen_table, seen_truths, booked_of, ids_sound, truths_sound}
+use Rattle.partners.specs.Partners.{Booked, SeenTruths, last_is, Pair, Table, last_of, match_at, match_one, match_all, switches_of, table_of, with_table, seen_table, seen_truths, booked_of, ids_sound, truths_sound}
 use Rattle.partners.proofs.Turns.{ids_at}
 
 abbrev pub truth_of : Pair → ℤ

@@ -1,5 +1,5 @@
--- One turn of the booking of pairs: the table in use Rattle.std.specs.Prelude.{Option}
-use is the definition's, and what lies beyond it is kept. Assumes nothing.
+use Rattle.std.specs.Prelude.{Option}
+-- One turn of the booking of pairs: the table in use is the definition's, and what lies beyond it is kept. Assumes nothing.
 use mathlib.Core.Path.{◌≡◌, refl, sym, ap, ◌∙◌, subst}
 use mathlib.Core.Bool.{Bool, true, false}
 use mathlib.Core.List.{List, [], ◌∷◌, ◌++◌, map, append_assoc, append-nil}
@@ -21,11 +21,10 @@ use Rattle.slots.specs.Slots.{switches}
 use Rattle.ids.proofs.Lookups.{found_below}
 use Rattle.seen.specs.Seen.{seen_at, place_of, used_with}
 use Rattle.seen.proofs.Growth.{turn, full_run, drop_more, over_front, grows}
-use Rattle.partners.specs.declared.Last.{Last}
 use Rattle.partners.specs.declared.Truths.{Truths}
 use Rattle.partners.specs.Partners.{nobody, last_is, Pair, pair_at, pairs_of, Table, last_in, last_at, match_at, match_one, match_all, switches_of, table_of, none, booked_with, booked_of}
 
-abbrev pub front : List ℤ → List Last → ℕ → Table
+abbrev pub front : List ℤ → List (Option ℤ) → ℕ → Table
 front ids lasts used = record { ids = take used ids; lasts = take used lasts }
 
 -- ---- a place of a matrix of n rows and w columns
@@ -56,7 +55,7 @@ unfolding match_at seen_at
 ids_at t p (At k) = refl
 ids_at t p Absent = refl
 
-module _ (ids : List ℤ) (lasts : List Last) (used : ℕ) (p : Pair) (h : used ≤ length ids) (l : length lasts ≡ length ids) where
+module _ (ids : List ℤ) (lasts : List (Option ℤ)) (used : ℕ) (p : Pair) (h : used ≤ length ids) (l : length lasts ≡ length ids) where
   abbrev Sets : Lookup → Type 0
   Sets o =
       (take (used_with o used) (set lasts (place_of o used) (last_is p.hypothesis)) ≡ (match_at (front ids lasts used) p o).lasts)
@@ -71,7 +70,7 @@ module _ (ids : List ℤ) (lasts : List Last) (used : ℕ) (p : Pair) (h : used 
       let b : k < used = omega arith in (
         take-set-lt used lasts k (last_is p.hypothesis) b,
         drop-set-lt used lasts k (last_is p.hypothesis) b,
-        ap (λ (x : Last). x.partner) (sym (get_or-take used lasts k nobody b)),
+        ap (λ (x : Option ℤ). x) (sym (get_or-take used lasts k nobody b)),
       )
   by_lookup Absent e q =
       (rw (add-one used) (take-suc-set lasts used (last_is p.hypothesis) (omega arith)), drop-set-lt (used + 1) lasts used (last_is p.hypothesis) (omega arith), refl)
@@ -98,7 +97,7 @@ all_long t [] = omega arith
 all_long t (p ∷ ps) = let a = match_long t p (seek_of t.ids p.truth) in let b = all_long (match_one t p) ps in omega arith
 
 -- ---- the loop over the pairs
-pub record Booking (t : Truths) (ps : List Pair) (ids : List ℤ) (lasts : List Last) (used : ℕ) (switched : List Bool) (i : ℕ) : Type 0 where
+pub record Booking (t : Truths) (ps : List Pair) (ids : List ℤ) (lasts : List (Option ℤ)) (used : ℕ) (switched : List Bool) (i : ℕ) : Type 0 where
   pub ids_long : length ids ≡ 256
   pub lasts_long : length lasts ≡ 256
   pub flags_long : length switched ≡ 64
@@ -113,7 +112,7 @@ pub begins : (t : Truths) (ps : List Pair) → length t.ids ≡ 256 → length t
 begins t ps a b h =
     record { ids_long = a; lasts_long = b; flags_long = refl; few = h; ids_kept = refl; lasts_kept = refl; flags_kept = refl; table = refl; flags = refl }
 
-module _ (t : Truths) (ps : List Pair) (ids : List ℤ) (lasts : List Last) (used : ℕ) (switched : List Bool) (i : ℕ) (g : Booking t ps ids lasts used switched i) (p : Pair)
+module _ (t : Truths) (ps : List Pair) (ids : List ℤ) (lasts : List (Option ℤ)) (used : ℕ) (switched : List Bool) (i : ℕ) (g : Booking t ps ids lasts used switched i) (p : Pair)
     (d : drop i ps ≡ p ∷ drop (i + 1) ps) where
   abbrev o : Lookup
   o = seek_of (take used ids) p.truth
@@ -184,7 +183,7 @@ module _ (t : Truths) (ps : List Pair) (ids : List ℤ) (lasts : List Last) (use
       subst (λ (u : Table). length (match_one (front ids lasts used) p).ids ≤ length u.ids) next_table (all_long (match_one (front ids lasts used) p) (drop (i + 1) ps)) in
       sym (rw (lt-ltb 256 (length (match_all (table_of t) ps).ids) (omega arith)))
 
-pub ends : (t : Truths) (ps : List Pair) (ids : List ℤ) (lasts : List Last) (used : ℕ) (switched : List Bool) (i : ℕ) → Booking t ps ids lasts used switched i
+pub ends : (t : Truths) (ps : List Pair) (ids : List ℤ) (lasts : List (Option ℤ)) (used : ℕ) (switched : List Bool) (i : ℕ) → Booking t ps ids lasts used switched i
     → i ≡ length ps → i ≤ 64 → record { full = false; truths = record { ids = ids; lasts = lasts; used = used }; switched = switched } ≡ booked_of t ps
 unfolding booked_of match_all switches_of
 ends t ps ids lasts used switched i g e h =

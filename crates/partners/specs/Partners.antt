@@ -1,24 +1,20 @@
 -- Document 01, "Lifecycles and events" and refusal 5: truth ids and their last partners over the pairs of a frame, first without a
 -- bound and then in a table of 256 places.
-use Rattle.std.specs.Prelude.{Option, None, Some}
-use Rattle.std.specs.Prelude.{Bool, true, false, cond, ◌&&◌, List, [], ◌∷◌, ◌++◌, map, ℕ, ◌/◌, ◌%◌, ◌-◌, ltb, ℤ, pos, length, take, get_or, set, replicate}
+use Rattle.std.specs.Prelude.{Option, None, Some, Bool, true, false, cond, List, [], ◌∷◌, ◌++◌, map, ℕ, ◌/◌, ◌%◌, ◌-◌, ltb, ℤ, pos, length, take, get_or, set, replicate}
 use Rattle.ids.specs.declared.Lookup.{Lookup}
 use Rattle.ids.specs.declared.Lookup.TheVariants.{At, Absent}
 use Rattle.ids.specs.Ids.{seek_of}
 use Rattle.slots.specs.Slots.{switches}
 use Rattle.seen.specs.Seen.{over, seen_all, ids_up_to}
-use Rattle.partners.specs.declared.Last.{Last}
 use Rattle.partners.specs.declared.Truths.{Truths}
-use Rattle.partners.specs.declared.Booked.{Booked}
-use Rattle.partners.specs.declared.SeenTruths.{SeenTruths}
 
-abbrev pub nobody : Last
-nobody = record { partner = None }
+abbrev pub nobody : Option ℤ
+nobody = None
 
-abbrev pub last_is : ℤ → Last
-last_is to = record { partner = Some to }
+abbrev pub last_is : ℤ → Option ℤ
+last_is to = Some to
 
-abbrev pub truths_of : List ℤ → List Last → ℕ → Truths
+abbrev pub truths_of : List ℤ → List (Option ℤ) → ℕ → Truths
 truths_of ids lasts used = record { ids = ids; lasts = lasts; used = used }
 
 abbrev pub new_truths : Truths
@@ -41,14 +37,14 @@ pairs_of truths hypotheses ks = map (pair_at truths hypotheses) ks
 -- ---- without a bound: ids in order of first booking, and the last partner of each
 pub record Table : Type 0 where
   pub ids : List ℤ
-  pub lasts : List Last
+  pub lasts : List (Option ℤ)
 
-abbrev pub last_in : Lookup → Last → Option ℤ
-last_in (At k) last = last.partner
+abbrev pub last_in : Lookup → Option ℤ → Option ℤ
+last_in (At k) last = last
 last_in Absent last = None
 
-abbrev pub last_at : List Last → Lookup → Option ℤ
-last_at lasts (At k) = (get_or lasts k nobody).partner
+abbrev pub last_at : List (Option ℤ) → Lookup → Option ℤ
+last_at lasts (At k) = get_or lasts k nobody
 last_at lasts Absent = None
 
 -- the last partner of an id; nobody where the id has no place
@@ -82,6 +78,13 @@ table_of t = record { ids = take t.used t.ids; lasts = take t.used t.lasts }
 abbrev pub with_table : Truths → Table → Truths
 with_table t u = record { ids = over u.ids t.ids; lasts = over u.lasts t.lasts; used = length u.ids }
 
+-- what the pairs of a frame come to: full where a new id would find no place, and then the table that came and no switch; else the
+-- table after them, and for each pair, by its number, whether it is a switch
+pub record Booked : Type 0 where
+  pub full : Bool
+  pub truths : Truths
+  pub switched : List Bool
+
 abbrev pub none : List Bool
 none = replicate 64 false
 
@@ -95,6 +98,16 @@ unfoldable pub booked_of : Truths → List Pair → Booked
 booked_of t ps = booked_with t (match_all (table_of t) ps) (switches_of (table_of t) ps)
 
 -- ---- the truth ids of a frame, seen
+-- the table with them: full where they would be more than 256, and then the table that came
+pub record SeenTruths : Type 0 where
+  pub full : Bool
+  pub truths : Truths
+
+-- an answer, read as what was seen: none where the table that came, t, stays
+abbrev pub truths_seen : Truths → Option Truths → SeenTruths
+truths_seen t None = record { full = true; truths = t }
+truths_seen t (Some u) = record { full = false; truths = u }
+
 -- one that is new has no partner
 abbrev pub seen_table : Table → List ℤ → Table
 seen_table t l = record { ids = l; lasts = t.lasts ++ replicate (length l - length t.ids) nobody }

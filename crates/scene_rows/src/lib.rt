@@ -1,4 +1,4 @@
-// How a table's numbers are read: a row of digits as an id and four corners, a side as rows laid one behind the other.
+//! How a table's numbers are read: a row of digits as an id and four corners, a side as rows laid one behind the other.
 #![tactic(auto)]
 
 ghost use Rattle.std.specs.Prelude.{◌≡◌, ◌++◌, ◌+◌, ◌*◌, ◌≤◌, ◌<◌, pos, length, take, get_or};
@@ -35,12 +35,10 @@ fn put_rows(rows: &[u64], first: usize, n: usize, ids: &mut [i32], boxes: &mut [
     ensures laid { Laid rows.now first n ids.new boxes.new }
     ensures ids_len_unchanged { (length ids.new ≡ length ids.old) × (length boxes.new ≡ length boxes.old) }
 {
-    let mut i: usize = 0;
-    while i < n {
+    for i in 0..n {
         let digits = rows[first + i];
         ids[i] = id(digits);
         put_box(boxes, i * 4, digits);
-        i += 1;
     }
 }
 
@@ -60,6 +58,7 @@ fn rows_there(rows: usize, first: usize, count: usize) -> usize
     count
 }
 
+/// A side of a frame, in memory that is lent: how many rows it has, its ids and its box floats, from the front.
 pub fn side(rows: &[u64], first: usize, count: usize, ids: &mut [i32], boxes: &mut [f64]) -> usize
     requires { (64 ≤ length ids.old) × (256 ≤ length boxes.old) }
     ensures value { (result ≡ size_of (length rows.now) first count) × Laid rows.now first result ids.new boxes.new }
@@ -73,12 +72,9 @@ pub fn side(rows: &[u64], first: usize, count: usize, ids: &mut [i32], boxes: &m
     n
 }
 
-// A frame's number, from 0; 0 digits, no boxes, past the last.
+/// The digits of the frame with this number, from 0; 0 digits, no boxes, past the last.
 pub fn digits_at(frames: &[u64], number: usize) -> u64
     ensures { result ≡ get_or frames.now number 0 }
 {
-    if number < frames.len() {
-        return frames[number];
-    }
-    0
+    frames.get(number).copied().unwrap_or(0)
 }

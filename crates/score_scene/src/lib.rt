@@ -1,11 +1,10 @@
-// A scene played frame by frame through both accumulators, and what is said of it.
+//! A scene played frame by frame through both accumulators, and what is said of it.
 #![tactic(auto)]
 
 ghost use Rattle.std.specs.Prelude.{◌≡◌, ◌<◌};
 ghost use Rattle.replay.specs.Replay.{new_both};
 ghost use Rattle.score_scene.specs.Playing.{scene_step, run_after, played_of, Stands};
 
-use lines::output;
 use lines::output::Writer;
 use metrics::MOTAccumulator;
 use replay::{Both, Step};
@@ -17,11 +16,11 @@ use score_text::refusals::say_refusal;
 use score_totals::say_totals;
 use summary::running_coverage;
 
-// Where a run stands.
+// Where a run stands: the states, and whether a refusal has ended it.
+// Kept: a flag beside the states, which `Stands` sets beside the definitions' `Run`; a Result would hold the same states in both cases.
 #[derive(Clone, Copy)]
 struct Played {
     both: Both,
-    writer: Writer,
     over: bool,
 }
 
@@ -31,47 +30,28 @@ fn start() -> Both
 {
     let extended = ExtendedMOTAccumulator::new();
     let metrics = MOTAccumulator::new();
-    Both {
-        extended: extended,
-        metrics: metrics,
-    }
+    Both { extended, metrics }
 }
 
 // A refusal ends a run: the rows before it stand, and the states are those after the last row.
-fn say_step(to: &mut [u8; 65536], w: Writer, frame: u64, step: Step) -> Played
+fn say_step(w: &mut Writer, frame: u64, step: Step) -> Played
     ensures { Stands result.both result.over (run_after step) }
 {
     let both = step.both;
     if step.extended_number != 0 {
-        return Played {
-            both,
-            writer: say_refusal(
-                to,
-                w,
-                frame,
-                b"the extended accumulator",
-                step.extended_number,
-            ),
-            over: true,
-        };
+        say_refusal(w, frame, b"the extended accumulator", step.extended_number);
+        return Played { both, over: true };
     }
     if step.metrics_number != 0 {
-        return Played {
-            both,
-            writer: say_refusal(to, w, frame, b"module 4's accumulator", step.metrics_number),
-            over: true,
-        };
+        say_refusal(w, frame, b"module 4's accumulator", step.metrics_number);
+        return Played { both, over: true };
     }
-    let row = step.row;
-    Played {
-        both,
-        writer: say_row(to, w, frame, row, running_coverage(both.extended)),
-        over: false,
-    }
+    say_row(w, frame, step.row, running_coverage(both.extended));
+    Played { both, over: false }
 }
 
 // The scene's frame of this number, from 0; the accumulators and the table count from 1.
-fn play_frame(to: &mut [u8; 65536], scene: Scene, number: usize, p: Played) -> Played
+fn play_frame(w: &mut Writer, scene: Scene, number: usize, p: Played) -> Played
     requires { number < 10000 }
     ensures { Stands result.both result.over (run_after (scene_step scene number p.both)) }
 {
@@ -87,54 +67,44 @@ fn play_frame(to: &mut [u8; 65536], scene: Scene, number: usize, p: Played) -> P
         &mut ids,
         &mut boxes,
     );
-    let rows = n.truths;
-    let row_floats = n.truth_floats;
-    let columns = n.predictions;
-    let column_floats = n.predicted_floats;
     let frame = number + 1;
     let step = replay::play_frame(
         p.both,
         frame as i32,
-        &truth_ids[..rows],
-        &truth_boxes[..row_floats],
-        &ids[..columns],
-        &boxes[..column_floats],
+        &truth_ids[..n.truths],
+        &truth_boxes[..n.truth_floats],
+        &ids[..n.predictions],
+        &boxes[..n.predicted_floats],
     );
-    say_step(to, p.writer, frame as u64, step)
+    say_step(w, frame as u64, step)
 }
 
 // All frames, up to the first that is refused.
-fn play(to: &mut [u8; 65536], w: Writer, scene: Scene, frames: usize) -> Played
+fn play(w: &mut Writer, scene: Scene, frames: usize) -> Played
     requires { frames < 10000 }
     ensures { Stands result.both result.over (played_of scene frames) }
 {
     let both = start();
-    let mut p = Played {
-        both,
-        writer: w,
-        over: false,
-    };
-    let mut number: usize = 0;
-    while number < frames {
+    let mut p = Played { both, over: false };
+    for number in 0..frames {
         if p.over {
             return p;
         }
-        p = play_frame(to, scene, number, p);
-        number += 1;
+        p = play_frame(w, scene, number, p);
     }
     p
 }
 
-fn say_end(to: &mut [u8; 65536], w: Writer, both: Both) -> Writer {
-    let q = output::byte(to, w, b'\n');
-    let q = say_lives(to, q, both.extended);
-    let q = output::byte(to, q, b'\n');
-    say_totals(to, q, both.extended, both.metrics)
+fn say_end(w: &mut Writer, both: Both) {
+    w.byte(b'\n');
+    say_lives(w, &both.extended);
+    w.byte(b'\n');
+    say_totals(w, both.extended, both.metrics);
 }
 
-// The whole of a scene: its frames, its truth ids, its scores.
-pub fn score(to: &mut [u8; 65536], w: Writer, scene: Scene) -> Writer {
-    let q = say_head(to, w);
-    let p = play(to, q, scene, scenes::frames(scene));
-    say_end(to, p.writer, p.both)
+/// The whole of a scene: its frames, its truth ids, its scores.
+pub fn score(w: &mut Writer, scene: Scene) {
+    say_head(w);
+    let p = play(w, scene, scenes::frames(scene));
+    say_end(w, p.both);
 }

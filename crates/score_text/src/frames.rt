@@ -1,25 +1,20 @@
-// A row for each frame, with the coverage so far.
-use lines::output;
+//! A row for each frame, with the coverage so far.
 use lines::output::Writer;
 use summary::{Row, Running};
 use table_text::{bar, count, six};
 
-pub fn say_head(to: &mut [u8; 65536], w: Writer) -> Writer {
-    output::text(
-        to,
-        w,
-        b"frame  matches  misses  false positives  switches  coverage so far\n",
-    )
+pub fn say_head(w: &mut Writer) {
+    w.text(b"frame  matches  misses  false positives  switches  coverage so far\n");
 }
 
-pub fn say_row(to: &mut [u8; 65536], w: Writer, frame: u64, row: Row, running: Running) -> Writer {
-    let q = count(to, w, 5, frame);
-    let q = count(to, q, 9, row.matches);
-    let q = count(to, q, 8, row.misses);
-    let q = count(to, q, 17, row.false_positives);
-    let q = count(to, q, 10, row.switches);
-    let q = six(to, q, 10, running.share);
-    let q = output::text(to, q, b"  ");
-    let q = bar(to, q, running.marks);
-    output::byte(to, q, b'\n')
+pub fn say_row(w: &mut Writer, frame: u64, row: Row, running: Running) {
+    count(w, 5, frame);
+    count(w, 9, row.matches);
+    count(w, 8, row.misses);
+    count(w, 17, row.false_positives);
+    count(w, 10, row.switches);
+    six(w, 10, running.share);
+    w.text(b"  ");
+    bar(w, running.marks);
+    w.byte(b'\n');
 }

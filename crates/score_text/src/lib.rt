@@ -1,4 +1,4 @@
-// The tables that score prints: frames, truth ids, and refusals by name.
+//! The tables that score prints: frames, truth ids, and refusals by name.
 #![tactic(auto)]
 
 pub mod frames;

@@ -1,29 +1,28 @@
-// The numbers of document 01, by name.
-use lines::output;
+//! The numbers of the refusals, by name.
 use lines::output::Writer;
 
-pub fn say_name(to: &mut [u8; 65536], w: Writer, number: u32) -> Writer {
+pub fn say_name(w: &mut Writer, number: u32) {
     match number {
-        0 => output::text(to, w, b"done"),
-        1 => output::text(to, w, b"a state that isn't sound"),
-        2 => output::text(to, w, b"more than 64 boxes or ids on one side"),
-        3 => output::text(to, w, b"ids and boxes that differ in number"),
-        4 => output::text(to, w, b"a box with no width or no height"),
-        5 => output::text(to, w, b"a table would hold too many ids"),
-        6 => output::text(to, w, b"the log would pass its capacity"),
-        7 => output::text(to, w, b"a count would pass 2147483647"),
-        _ => output::text(to, w, b"a number with no name"),
+        0 => w.text(b"done"),
+        1 => w.text(b"a state that isn't sound"),
+        2 => w.text(b"more than 64 boxes or ids on one side"),
+        3 => w.text(b"ids and boxes that differ in number"),
+        4 => w.text(b"a box with no width or no height"),
+        5 => w.text(b"a table would hold too many ids"),
+        6 => w.text(b"the log would pass its capacity"),
+        7 => w.text(b"a count would pass 2147483647"),
+        _ => w.text(b"a number with no name"),
     }
 }
 
-pub fn say_refusal(to: &mut [u8; 65536], w: Writer, frame: u64, by: &[u8], number: u32) -> Writer {
-    let q = output::text(to, w, b"frame ");
-    let q = output::decimal(to, q, frame);
-    let q = output::text(to, q, b" refused by ");
-    let q = output::text(to, q, by);
-    let q = output::text(to, q, b": ");
-    let q = output::decimal(to, q, number as u64);
-    let q = output::text(to, q, b", ");
-    let q = say_name(to, q, number);
-    output::text(to, q, b". The run ends here.\n")
+pub fn say_refusal(w: &mut Writer, frame: u64, by: &[u8], number: u32) {
+    w.text(b"frame ");
+    w.decimal(frame);
+    w.text(b" refused by ");
+    w.text(by);
+    w.text(b": ");
+    w.decimal(u64::from(number));
+    w.text(b", ");
+    say_name(w, number);
+    w.text(b". The run ends here.\n");
 }

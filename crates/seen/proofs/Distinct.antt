@@ -20,8 +20,7 @@ use Rattle.ids.specs.Ids.{seek_of, distinct_of}
 use Rattle.ids.proofs.Lookups.{found_below, absent_reads}
 use Rattle.ids.proofs.NoneTwice.{distinct_reads, distinct_is}
 use Rattle.seen.specs.declared.Hypotheses.{Hypotheses}
-use Rattle.seen.specs.declared.SeenHypotheses.{SeenHypotheses}
-use Rattle.seen.specs.Seen.{seen_at, seen_one, seen_all, over, hypotheses_of, seen_by, seen_hypotheses, hypotheses_sound}
+use Rattle.seen.specs.Seen.{SeenHypotheses, seen_at, seen_one, seen_all, over, hypotheses_of, seen_by, seen_hypotheses, hypotheses_sound}
 use Rattle.seen.specs.Holds.{Holds}
 use Rattle.seen.proofs.Growth.{found_there, all_long, all_starts}
 

@@ -16,8 +16,7 @@ use Rattle.ids.specs.declared.Lookup.{Lookup}
 use Rattle.ids.specs.declared.Lookup.TheVariants.{At, Absent}
 use Rattle.ids.specs.Ids.{seek_from, seek_of}
 use Rattle.ids.proofs.Lookups.{found_below}
-use Rattle.seen.specs.declared.Seen.{Seen}
-use Rattle.seen.specs.Seen.{seen_at, seen_one, seen_all, place_of, used_with, over, seen_of, run_after}
+use Rattle.seen.specs.Seen.{Seen, seen_at, seen_one, seen_all, place_of, used_with, over, seen_of, run_after}
 
 -- ---- a place that is found holds the id
 abbrev Holds : List ℤ → ℕ → ℤ → ℕ → Type 0
@@ -155,7 +154,7 @@ module _ (run₀ : List ℤ) (used : ℕ) (ids run : List ℤ) (count i : ℕ) (
       )
 
   pub stops : (id : ℤ) (o : Lookup) (at : ℕ) → i < length ids → get_or ids i (pos 0) ≡ id → o ≡ seek_of (take count run) id → at ≡ place_of o count → length run ≤ at
-      → (record { used = count; full = true } ≡ seen_of (length run₀) final) × (run ≡ run_after run₀ final)
+      → (record { used = length run₀; full = true } ≡ seen_of (length run₀) final) × (run ≡ run_after run₀ final)
   stops id o at h e q p l =
       let f = full_run run count id s.0 (subst (λ (n : ℕ). length run ≤ n) (p ∙ ap (λ (x : Lookup). place_of x count) q) l) in
       let c = f.0 in
@@ -166,7 +165,9 @@ module _ (run₀ : List ℤ) (used : ℕ) (ids run : List ℤ) (count i : ℕ) (
       let starts : take (length run₀) final ≡ run =
       ap (λ (k : ℕ). take k final) (sym w)
       ∙ (ap (take (length run)) (sym a) ∙ (starts_with (run ++ (id ∷ [])) (drop (i + 1) ids) (length run) (omega arith) ∙ take_at run (id ∷ []) (length run) refl)) in
-      answers true (starts ∙ sym (take_all count run (omega arith))) (sym (lt-ltb (length run₀) (length final) (omega arith)))
+      let e = answers true (starts ∙ sym (take_all count run (omega arith))) (sym (lt-ltb (length run₀) (length final) (omega arith))) in
+      let u : length run₀ ≡ count = omega arith in
+      (ap (λ (n : ℕ). record { used = n; full = true }) u ∙ e.0, e.1)
 
   pub ends : i ≡ length ids → (record { used = count; full = false } ≡ seen_of (length run₀) final) × (run ≡ run_after run₀ final)
   unfolding seen_all

@@ -1,12 +1,10 @@
 -- Ids in order of first appearance, first without a bound and then in a run of so many places. Refusal 5 speaks of the first:
 -- "after the frame a table would hold more distinct ids than it can".
-use Rattle.std.specs.Prelude.{Bool, true, false, cond, ◌&&◌, List, [], ◌∷◌, ◌++◌, ℕ, ◌+◌, ltb, leb, ℤ, pos, length, take, drop, replicate}
+use Rattle.std.specs.Prelude.{Bool, true, false, cond, ◌&&◌, List, [], ◌∷◌, ◌++◌, ℕ, ◌+◌, ltb, leb, ℤ, pos, length, take, drop, replicate, Option, Some, None}
 use Rattle.ids.specs.declared.Lookup.{Lookup}
 use Rattle.ids.specs.declared.Lookup.TheVariants.{At, Absent}
 use Rattle.ids.specs.Ids.{seek_of, distinct_of}
-use Rattle.seen.specs.declared.Seen.{Seen}
 use Rattle.seen.specs.declared.Hypotheses.{Hypotheses}
-use Rattle.seen.specs.declared.SeenHypotheses.{SeenHypotheses}
 
 -- ---- without a bound
 -- one id: it stays where it stands, or comes after the others
@@ -23,6 +21,16 @@ seen_all l [] = l
 seen_all l (id ∷ ids) = seen_all (seen_one l id) ids
 
 -- ---- in a run
+-- how many places are used in the end, and whether an id found none
+pub record Seen : Type 0 where
+  pub used : ℕ
+  pub full : Bool
+
+-- an answer, read as what was seen: none where every one of so many places is used and an id found none
+abbrev pub places_seen : ℕ → Option ℕ → Seen
+places_seen room None = record { used = room; full = true }
+places_seen room (Some n) = record { used = n; full = false }
+
 abbrev pub place_of : Lookup → ℕ → ℕ
 place_of (At k) used = k
 place_of Absent used = used
@@ -43,6 +51,16 @@ unfoldable pub run_after : List ℤ → List ℤ → List ℤ
 run_after run l = over (take (length run) l) run
 
 -- ---- the hypotheses seen, 1,024 at most
+-- the hypotheses with a frame's: full where they would be more than 1,024, and then those that came
+pub record SeenHypotheses : Type 0 where
+  pub full : Bool
+  pub hypotheses : Hypotheses
+
+-- an answer, read as what was seen: none where those that came, h, stay
+abbrev pub hypotheses_seen : Hypotheses → Option Hypotheses → SeenHypotheses
+hypotheses_seen h None = record { full = true; hypotheses = h }
+hypotheses_seen h (Some g) = record { full = false; hypotheses = g }
+
 abbrev pub hypotheses_of : List ℤ → ℕ → Hypotheses
 hypotheses_of ids used = record { ids = ids; used = used }
 

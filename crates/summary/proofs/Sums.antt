@@ -2,6 +2,7 @@
 use mathlib.Core.Path.{◌≡◌, refl, sym, ap, ◌∙◌}
 use mathlib.Core.Bool.{Bool, true, false, ◌&&◌, true≢false}
 use mathlib.Core.List.{List}
+use Rattle.std.specs.Prelude.{Option, None, Some}
 use Prim.Native.Nat.{ℕ, ◌+◌, ◌<◌, ◌≤◌}
 use native.Mathlib.Omega.{arith}
 use native.Mathlib.Numerals.{add-one}
@@ -18,7 +19,7 @@ use Rattle.slots.specs.Slots.{no_slot}
 use Rattle.summary.specs.declared.Covered.{Covered}
 use Rattle.summary.specs.Coverage.{added_of, covered_of, Below}
 use Rattle.rows.specs.declared.ExtendedMOTAccumulator.{ExtendedMOTAccumulator}
-use Rattle.summary.specs.Totals.{totals_of, few_of, scores_for, no_scores, scores_of}
+use Rattle.summary.specs.Totals.{totals_of, few_of, scores_for, scores_of}
 
 pub size_few : (z : ℤ) → SFits w32 z → nat_abs z ≤ 2147483648
 size_few (pos n) h = let l : n < 2147483648 = h.sfits in omega arith
@@ -52,12 +53,12 @@ few_then t e =
 
 -- what scores a tally has, by whether it is no longer than a log
 module _ (s : ExtendedMOTAccumulator) {t : Tally} {few : Bool} (e : t ≡ totals_of s) (q : few ≡ few_of t) where
-  pub scores_known : few ≡ true → scores_for t ≡ scores_of s
+  pub scores_known : few ≡ true → Some (scores_for t) ≡ scores_of s
   scores_known k =
       let f : few_of (totals_of s) ≡ true = sym (ap few_of e) ∙ (sym q ∙ k) in
-      rw f (ap scores_for e)
+      rw f (ap (λ (x : Tally). Some (scores_for x)) e)
 
-  pub scores_unknown : few ≡ false → no_scores ≡ scores_of s
+  pub scores_unknown : few ≡ false → None ≡ scores_of s
   scores_unknown k =
       let f : few_of (totals_of s) ≡ false = sym (ap few_of e) ∙ (sym q ∙ k) in
       rw f

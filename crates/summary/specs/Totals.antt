@@ -1,5 +1,5 @@
 -- The extended accumulator's totals as a tally of events, and its scores by the rules that modules 3 and 4 have for a log.
-use Rattle.std.specs.Prelude.{Bool, true, false, cond, ◌&&◌, ◌+◌, ◌-◌, leb, nat_abs}
+use Rattle.std.specs.Prelude.{Bool, cond, Option, None, Some, ◌&&◌, ◌+◌, ◌-◌, leb, nat_abs}
 use Rattle.floats.specs.Float.{zero64}
 use Rattle.events.specs.declared.Tally.{Tally}
 use Rattle.scores.specs.Scores.{pairs_of, mean_of, precision_of, recall_of, mota_of, f1_of}
@@ -27,7 +27,6 @@ few_of t = leb (t.matches + t.switches + t.misses + t.false_positives) 1024 && l
 abbrev pub scores_for : Tally → Scores
 scores_for t =
     record {
-      known = true;
       mota = mota_of t;
       motp = mean_of t.distance (pairs_of t);
       precision = precision_of t;
@@ -35,8 +34,6 @@ scores_for t =
       f1 = f1_of (precision_of t) (recall_of t);
     }
 
-abbrev pub no_scores : Scores
-no_scores = record { known = false; mota = zero64; motp = zero64; precision = zero64; recall = zero64; f1 = zero64 }
-
-abbrev pub scores_of : ExtendedMOTAccumulator → Scores
-scores_of s = cond (few_of (totals_of s)) (scores_for (totals_of s)) no_scores
+-- of totals that are more than a log has there are none
+abbrev pub scores_of : ExtendedMOTAccumulator → Option Scores
+scores_of s = cond (few_of (totals_of s)) (Some (scores_for (totals_of s))) None

@@ -1,130 +1,48 @@
-// Tables of ids as words.
+//! Tables of ids as words.
 #![tactic(auto)]
 
-ghost use Rattle.std.specs.Prelude.{◌≤◌};
-
-use lines::input;
 use lines::input::Reader;
 use lines::output::Writer;
-use lines::session::{say_count, say_whole};
-use log_requests::places_shown;
-use partners::{Last, Truths};
+use lines::tables::{Given, places_shown};
+use partners::Truths;
 use seen::Hypotheses;
 use state_requests::{read_partner, say_partner};
 
-// A table, and how many of its places were given.
-#[derive(Clone, Copy)]
-pub struct ReadTruths {
-    pub truths: Truths,
-    pub given: usize,
-    pub reader: Reader,
+pub fn read_truths(reader: &mut Reader) -> Option<Given<Truths>> {
+    let mut table = Truths::new();
+    table.used = reader.count()? as usize;
+    let given = reader.length(256)?;
+    // Kept: by an index, as each place's two words go to two arrays; a zip of two iter_mut is no plainer.
+    for i in 0..given {
+        table.ids[i] = reader.whole()?;
+        table.lasts[i] = read_partner(reader)?;
+    }
+    Some(Given { table, given })
 }
 
-#[derive(Clone, Copy)]
-pub struct ReadHypotheses {
-    pub hypotheses: Hypotheses,
-    pub given: usize,
-    pub reader: Reader,
+pub fn read_hypotheses(reader: &mut Reader) -> Option<Given<Hypotheses>> {
+    let mut table = Hypotheses::new();
+    table.used = reader.count()? as usize;
+    let given = reader.length(1024)?;
+    for id in table.ids[..given].iter_mut() {
+        *id = reader.whole()?;
+    }
+    Some(Given { table, given })
 }
 
-fn read_places(from: &mut [u8; 65536], used: usize, n: usize, r: Reader) -> ReadTruths
-    requires { n ≤ 256 }
-{
-    let mut truths = Truths::new();
-    truths.used = used;
-    let mut q = r;
-    let mut i: usize = 0;
-    while i < n {
-        let id = input::whole(from, q);
-        let value = id.value;
-        let p = read_partner(from, id.reader);
-        let partner = p.partner;
-        truths.ids[i] = value;
-        truths.lasts[i] = Last { partner };
-        q = p.reader;
-        i += 1;
-    }
-    ReadTruths {
-        truths,
-        given: n,
-        reader: q,
-    }
-}
-
-pub fn read_truths(from: &mut [u8; 65536], r: Reader) -> ReadTruths {
-    let used = input::count(from, r);
-    let c = input::count(from, used.reader);
-    let reader = c.reader;
-    if c.value > 256 {
-        return read_places(from, 0, 0, input::marked(reader, true));
-    }
-    read_places(from, used.value as usize, c.value as usize, reader)
-}
-
-fn read_ids(from: &mut [u8; 65536], used: usize, n: usize, r: Reader) -> ReadHypotheses
-    requires { n ≤ 1024 }
-{
-    let mut hypotheses = Hypotheses::new();
-    hypotheses.used = used;
-    let mut q = r;
-    let mut i: usize = 0;
-    while i < n {
-        let id = input::whole(from, q);
-        let value = id.value;
-        hypotheses.ids[i] = value;
-        q = id.reader;
-        i += 1;
-    }
-    ReadHypotheses {
-        hypotheses,
-        given: n,
-        reader: q,
-    }
-}
-
-pub fn read_hypotheses(from: &mut [u8; 65536], r: Reader) -> ReadHypotheses {
-    let used = input::count(from, r);
-    let c = input::count(from, used.reader);
-    let reader = c.reader;
-    if c.value > 1024 {
-        return read_ids(from, 0, 0, input::marked(reader, true));
-    }
-    read_ids(from, used.value as usize, c.value as usize, reader)
-}
-
-fn say_places(to: &mut [u8; 65536], w: Writer, t: Truths, n: usize) -> Writer
-    requires { n ≤ 256 }
-{
-    let mut q = say_count(to, w, n as u64);
-    let mut i: usize = 0;
-    while i < n {
-        q = say_whole(to, q, t.ids[i]);
-        let last = t.lasts[i];
-        let partner = last.partner;
-        q = say_partner(to, q, partner);
-        i += 1;
-    }
-    q
-}
-
-pub fn say_truths(to: &mut [u8; 65536], w: Writer, t: Truths, given: usize) -> Writer {
+pub fn say_truths(w: &mut Writer, t: &Truths, given: usize) {
     let n = places_shown(t.used, given, 256);
-    say_places(to, w, t, n)
-}
-
-fn say_ids(to: &mut [u8; 65536], w: Writer, h: Hypotheses, n: usize) -> Writer
-    requires { n ≤ 1024 }
-{
-    let mut q = say_count(to, w, n as u64);
-    let mut i: usize = 0;
-    while i < n {
-        q = say_whole(to, q, h.ids[i]);
-        i += 1;
+    w.next_decimal(n as u64);
+    for (id, last) in t.ids[..n].iter().zip(&t.lasts[..n]) {
+        w.next_whole(*id);
+        say_partner(w, *last);
     }
-    q
 }
 
-pub fn say_hypotheses(to: &mut [u8; 65536], w: Writer, h: Hypotheses, given: usize) -> Writer {
+pub fn say_hypotheses(w: &mut Writer, h: &Hypotheses, given: usize) {
     let n = places_shown(h.used, given, 1024);
-    say_ids(to, w, h, n)
+    w.next_decimal(n as u64);
+    for id in &h.ids[..n] {
+        w.next_whole(*id);
+    }
 }

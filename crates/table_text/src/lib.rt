@@ -1,4 +1,4 @@
-// Text in columns, for people.
+//! Text in columns, for people.
 #![tactic(auto)]
 
 ghost use Rattle.std.specs.Prelude.{◌≡◌, ◌-◌, ◌≤◌};
@@ -6,7 +6,6 @@ ghost use Rattle.lines.specs.Cursors.{Kept};
 ghost use Rattle.table_text.specs.Bars.{most_forty};
 
 use decimal_text::write_six;
-use lines::output;
 use lines::output::Writer;
 use wholes::size;
 
@@ -14,74 +13,70 @@ use wholes::size;
 fn room(width: usize, length: usize) -> usize
     ensures { result ≡ width - length }
 {
-    if length < width {
-        return width - length;
+    width.saturating_sub(length)
+}
+
+fn repeat(w: &mut Writer, b: u8, n: usize)
+    ensures { Kept w.old w.new }
+{
+    for _ in 0..n {
+        w.byte(b);
     }
-    0
 }
 
-fn repeat(to: &mut [u8; 65536], w: Writer, b: u8, n: usize) -> Writer
-    ensures { Kept w result }
+/// A text at the right end of a column.
+pub fn right(w: &mut Writer, width: usize, text: &[u8])
+    ensures { Kept w.old w.new }
 {
-    let mut q = w;
-    let mut left = n;
-    while left > 0 {
-        q = output::byte(to, q, b);
-        left -= 1;
-    }
-    q
+    repeat(w, b' ', room(width, text.len()));
+    w.text(text);
 }
 
-// A text at the right end of a column.
-pub fn right(to: &mut [u8; 65536], w: Writer, width: usize, text: &[u8]) -> Writer
-    ensures { Kept w result }
+/// A text at the left end of a column.
+pub fn left(w: &mut Writer, width: usize, text: &[u8])
+    ensures { Kept w.old w.new }
 {
-    let q = repeat(to, w, b' ', room(width, text.len()));
-    output::text(to, q, text)
+    w.text(text);
+    repeat(w, b' ', room(width, text.len()));
 }
 
-// A text at the left end of a column.
-pub fn left(to: &mut [u8; 65536], w: Writer, width: usize, text: &[u8]) -> Writer
-    ensures { Kept w result }
-{
-    let q = output::text(to, w, text);
-    repeat(to, q, b' ', room(width, text.len()))
-}
-
-pub fn count(to: &mut [u8; 65536], w: Writer, width: usize, n: u64) -> Writer
-    ensures { Kept w result }
+/// A count at the right end of a column.
+pub fn count(w: &mut Writer, width: usize, n: u64)
+    ensures { Kept w.old w.new }
 {
     let mut letters = [0u8; 20];
     let k = io::decimal(n, &mut letters);
-    right(to, w, width, &letters[..k])
+    right(w, width, &letters[..k]);
 }
 
-fn negative(to: &mut [u8; 65536], w: Writer, width: usize, n: u64) -> Writer
-    ensures { Kept w result }
+fn negative(w: &mut Writer, width: usize, n: u64)
+    ensures { Kept w.old w.new }
 {
     let mut letters = [0u8; 20];
     let k = io::decimal(n, &mut letters);
-    let q = repeat(to, w, b' ', room(room(width, 1), k));
-    let q = output::byte(to, q, b'-');
-    output::text(to, q, &letters[..k])
+    repeat(w, b' ', room(room(width, 1), k));
+    w.byte(b'-');
+    w.text(&letters[..k]);
 }
 
-pub fn whole(to: &mut [u8; 65536], w: Writer, width: usize, x: i32) -> Writer
-    ensures { Kept w result }
+/// A whole number at the right end of a column.
+pub fn whole(w: &mut Writer, width: usize, x: i32)
+    ensures { Kept w.old w.new }
 {
     if x < 0 {
-        return negative(to, w, width, size(x));
+        negative(w, width, size(x));
+    } else {
+        count(w, width, size(x));
     }
-    count(to, w, width, size(x))
 }
 
-// A float to six places.
-pub fn six(to: &mut [u8; 65536], w: Writer, width: usize, x: f64) -> Writer
-    ensures { Kept w result }
+/// A float to six places, at the right end of a column.
+pub fn six(w: &mut Writer, width: usize, x: f64)
+    ensures { Kept w.old w.new }
 {
     let mut letters = [0u8; 320];
     let n = write_six(x, &mut letters);
-    right(to, w, width, &letters[..n])
+    right(w, width, &letters[..n]);
 }
 
 #[tactic(auto, unfolding(crate::specs::Bars::most_forty))]
@@ -94,11 +89,11 @@ fn most_forty(marks: u64) -> usize
     40
 }
 
-// A bar of forty places.
-pub fn bar(to: &mut [u8; 65536], w: Writer, marks: u64) -> Writer
-    ensures { Kept w result }
+/// A bar of forty places.
+pub fn bar(w: &mut Writer, marks: u64)
+    ensures { Kept w.old w.new }
 {
     let n = most_forty(marks);
-    let q = repeat(to, w, b'#', n);
-    repeat(to, q, b'.', 40 - n)
+    repeat(w, b'#', n);
+    repeat(w, b'.', 40 - n);
 }

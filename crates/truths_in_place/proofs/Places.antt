@@ -1,4 +1,5 @@
 -- The table that a run stands for, place by place, and with one place written. Assumes nothing.
+use Rattle.std.specs.Prelude.{Option}
 use mathlib.Core.Path.{◌≡◌, refl, sym, ap, ◌∙◌}
 use mathlib.Core.Bool.{Bool, true, false}
 use mathlib.Core.List.{List, [], ◌∷◌}
@@ -12,12 +13,11 @@ use lib.ListN.{length, get_or, set, take, length-set}
 use lib.Seq.{ext_get_or, get_or-set_same, get_or-set_other, take-set-le, take-set-lt}
 use Rattle.columns.specs.Columns.{put_all}
 use Rattle.columns.proofs.Runs.{read_all, fits_up_to, all_other, all_same}
-use Rattle.partners.specs.declared.Last.{Last}
 use Rattle.partners.specs.Partners.{nobody}
 use Rattle.truths_in_place.specs.Table.{last_from, last_at, lasts_from}
 
 -- ---- the partners that a run stands for
-abbrev pub lasts_in : List ℤ → List Last
+abbrev pub lasts_in : List ℤ → List (Option ℤ)
 lasts_in table = lasts_from table 0 256
 
 from_long : (n : ℕ) (table : List ℤ) (i : ℕ) → length (lasts_from table i n) ≡ n
@@ -38,7 +38,7 @@ pub last_at_lem : (table : List ℤ) (k : ℕ) → k < 256 → get_or (lasts_in 
 last_at_lem table k h = from_at 256 table 0 k k h (omega arith)
 
 -- ---- one place written
-abbrev last_of_three : List ℤ → Last
+abbrev last_of_three : List ℤ → Option ℤ
 last_of_three l = last_from (get_or l 1 (pos 0)) (get_or l 2 (pos 0))
 
 of_three : (table : List ℤ) (k : ℕ) → last_at table k ≡ last_of_three (read_all table 256 k 3)

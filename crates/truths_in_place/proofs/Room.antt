@@ -1,6 +1,7 @@
 -- Whether there is room, as the definitions of a frame's ids say it. Assumes nothing.
+use Rattle.std.specs.Prelude.{Option, None, Some, is_some}
 use mathlib.Core.Path.{◌≡◌, refl, sym, ap, ◌∙◌}
-use mathlib.Core.Bool.{Bool, true, false, cond, not}
+use mathlib.Core.Bool.{Bool, true, false, cond, not, true≢false}
 use mathlib.Core.List.{List, map-map}
 use Prim.Native.Nat.{ℕ, ◌≤◌}
 use borrow.Author.Tests.{ltb-false}
@@ -8,14 +9,10 @@ use lib.Dec.{ltb}
 use lib.IntN.{ℤ}
 use lib.ListN.{length, take}
 use lib.Seq.{take-take}
-use Rattle.seen.specs.declared.Seen.{Seen}
-use Rattle.seen.specs.declared.SeenHypotheses.{SeenHypotheses}
-use Rattle.seen.specs.Seen.{seen_all, seen_of, run_after, hypotheses_of, seen_hypotheses}
+use Rattle.seen.specs.Seen.{Seen, SeenHypotheses, places_seen, seen_all, seen_of, run_after, hypotheses_of, seen_hypotheses}
 use Rattle.seen.proofs.Growth.{says_fits}
-use Rattle.partners.specs.declared.Booked.{Booked}
-use Rattle.partners.specs.declared.SeenTruths.{SeenTruths}
 use Rattle.partners.specs.declared.Truths.{Truths}
-use Rattle.partners.specs.Partners.{Pair, pair_at, pairs_of, table_of, match_all, none, seen_truths, booked_of}
+use Rattle.partners.specs.Partners.{Booked, SeenTruths, Pair, pair_at, pairs_of, table_of, match_all, none, seen_truths, booked_of}
 use Rattle.partners.proofs.Meaning.{truth_of, ids_are}
 use Rattle.truths_in_place.specs.Table.{truths_in}
 use Rattle.id_runs.specs.Runs.{fit_in, row_ids_of}
@@ -87,8 +84,16 @@ pub not_full : (room : ℕ) (l : List ℤ) (s : Seen) → s ≡ seen_of room l �
 unfolding seen_of
 not_full room l s e f = ap (λ (x : Seen). x.full) e ∙ f
 
+pub none_left : (room : ℕ) (l : List ℤ) (o : Option ℕ) → places_seen room o ≡ seen_of room l → ltb room (length l) ≡ false → is_some o ≡ true
+none_left room l None e f = absurd (true≢false (not_full room l (places_seen room None) e f))
+none_left room l (Some n) e f = refl
+
+-- an answer that names the places, as what was seen
+pub as_seen : (room n : ℕ) (l : List ℤ) (o : Option ℕ) → o ≡ Some n → places_seen room o ≡ seen_of room l → record { used = n; full = false } ≡ seen_of room l
+as_seen room n l o e s = sym (ap (places_seen room) e) ∙ s
+
 module _ (run : List ℤ) (long : length run ≡ 1024) (used : ℕ) (ids : List ℤ) (f : (seen_hypotheses (hypotheses_of run used) ids).full ≡ false) where
-  few : ltb 1024 (length (seen_all (take used run) ids)) ≡ false
+  pub few : ltb 1024 (length (seen_all (take used run) ids)) ≡ false
   few = sym (hypotheses_full run used ids) ∙ f
 
   -- what is seen is the definition's

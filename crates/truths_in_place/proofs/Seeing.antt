@@ -1,4 +1,5 @@
 -- The truth ids of a frame, seen in a run: the table that it stands for is the definition's. Assumes nothing.
+use Rattle.std.specs.Prelude.{Option}
 use mathlib.Core.Path.{◌≡◌, refl, sym, ap, ◌∙◌}
 use mathlib.Core.Bool.{Bool, true, false}
 use mathlib.Core.List.{List, ◌++◌}
@@ -9,10 +10,8 @@ use lib.Dec.{ltb}
 use lib.IntN.{ℤ, pos}
 use lib.ListN.{length, take, drop, get_or, replicate}
 use lib.Seq.{ext_get_or, length-take-le, take-take}
-use Rattle.seen.specs.declared.Seen.{Seen}
-use Rattle.seen.specs.Seen.{over, seen_all, seen_of, run_after}
+use Rattle.seen.specs.Seen.{Seen, over, seen_all, seen_of, run_after}
 use Rattle.seen.proofs.Growth.{all_long, says_fits}
-use Rattle.partners.specs.declared.Last.{Last}
 use Rattle.partners.specs.Partners.{nobody, table_of, with_table, seen_table, seen_truths}
 use Rattle.truths_in_place.specs.Table.{last_from, last_at, truths_in, seen_put, TruthsSeen}
 use Rattle.id_runs.specs.Runs.{cleared}
@@ -94,7 +93,7 @@ module _ (table : List ℤ) (long : length table ≡ 768) (used : ℕ) (l : List
     last_past p = λ j. last_from (known_past (k + 256) refl p j) (partner_past (k + 256 + 256) refl p j)
 
   -- ---- the partners
-  abbrev lasts : List Last
+  abbrev lasts : List (Option ℤ)
   lasts = over (take used (lasts_in table) ++ replicate (length l - used) nobody) (lasts_in table)
 
   room : length l ≤ length (lasts_in table)
@@ -129,6 +128,12 @@ module _ (table : List ℤ) (long : length table ≡ 768) (used : ℕ) (l : List
       }
 
 -- ---- the run, step by step
+pub room_left : (table : List ℤ) (used : ℕ) (ids : List ℤ) → length table ≡ 768 → used ≤ 256 → (seen_truths (truths_in table used) ids).full ≡ false
+    → ltb (length (take 256 table)) (length (seen_all (take used (take 256 table)) ids)) ≡ false
+room_left table used ids long h f =
+    let n : length (take 256 table) ≡ 256 = length-take-le 256 table (omega arith) in
+    (λ j. ltb (n j) (length (seen_all (take-take used 256 table h j) ids))) ∙ le-ltb 256 (length (seen_all (take used table) ids)) (truths_few table used h ids f)
+
 module _ (table : List ℤ) (long : length table ≡ 768) (used : ℕ) (h : used ≤ 256) (ids : List ℤ) (f : (seen_truths (truths_in table used) ids).full ≡ false)
     (s : Seen) (front : List ℤ) (es : s ≡ seen_of (length (take 256 table)) (seen_all (take used (take 256 table)) ids))
     (ef : front ≡ run_after (take 256 table) (seen_all (take used (take 256 table)) ids)) where

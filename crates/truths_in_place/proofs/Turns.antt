@@ -1,5 +1,6 @@
 -- One turn of the booking of pairs in a run: the table that it stands for is booked as the definition says, and every number too.
 -- Assumes nothing.
+use Rattle.std.specs.Prelude.{Option}
 use mathlib.Core.Path.{◌≡◌, refl, sym, ap, ◌∙◌, subst}
 use mathlib.Core.Bool.{Bool, true, false, true≢false}
 use mathlib.Core.List.{List, [], ◌∷◌}
@@ -15,9 +16,7 @@ use Rattle.ids.specs.declared.Lookup.{Lookup}
 use Rattle.ids.specs.Ids.{seek_of}
 use Rattle.slots.specs.Slots.{switches}
 use Rattle.seen.specs.Seen.{place_of, used_with}
-use Rattle.partners.specs.declared.Last.{Last}
-use Rattle.partners.specs.declared.Booked.{Booked}
-use Rattle.partners.specs.Partners.{nobody, Pair, last_in, none, booked_of}
+use Rattle.partners.specs.Partners.{Booked, nobody, Pair, last_in, none, booked_of}
 use Rattle.partners.proofs.Turns as partners
 use Rattle.truths_in_place.specs.Table.{last_from, last_at, truths_in, pairs_put, MatchesBooked}
 use Rattle.truths_in_place.proofs.Places.{lasts_in, lasts_long, last_at_lem, put_long, put_id, put_last}
@@ -64,13 +63,13 @@ module _ (table₀ : List ℤ) (used₀ : ℕ) (ps : List Pair) (table : List �
       → (after : List ℤ) → after ≡ put_all table 256 at (id ∷ (pos 1 ∷ (to ∷ []))) → Booking table₀ used₀ ps after used' (set switched i b) (i + 1)
   books to known partner used' b h eto eu ek ep eb r after ea =
       let l = g.long in
-      let flag : b ≡ switches (last_in x (get_or (lasts_in table) at nobody)) to = eb ∙ ((λ j. switches (last_in x (last_from (ek j) (ep j))) to) ∙ ap (λ (y : Last). switches (last_in x y) to) (sym (stands r))) in
+      let flag : b ≡ switches (last_in x (get_or (lasts_in table) at nobody)) to = eb ∙ ((λ j. switches (last_in x (last_from (ek j) (ep j))) to) ∙ ap (λ (y : Option ℤ). switches (last_in x y) to) (sym (stands r))) in
       let next = partners.books (truths_in table₀ used₀) ps (take 256 table) (lasts_in table) used switched i g.booked p d id to x at used' b h eid eto looked eat eu flag r in
       rw ea (record {
         long = put_long table l at r id (pos 1) to;
         booked =
             subst (λ (ids : List ℤ). partners.Booking (truths_in table₀ used₀) ps ids (lasts_in (put_all table 256 at (id ∷ (pos 1 ∷ (to ∷ []))))) used' (set switched i b) (i + 1)) (sym (put_id table l at r id (pos 1) to))
-            (subst (λ (lasts : List Last). partners.Booking (truths_in table₀ used₀) ps (set (take 256 table) at id) lasts used' (set switched i b) (i + 1)) (sym (put_last table l at r id (pos 1) to)) next);
+            (subst (λ (lasts : List (Option ℤ)). partners.Booking (truths_in table₀ used₀) ps (set (take 256 table) at id) lasts used' (set switched i b) (i + 1)) (sym (put_last table l at r id (pos 1) to)) next);
         numbers = next_numbers to used' eto eu;
       })
 

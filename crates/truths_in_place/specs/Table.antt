@@ -1,25 +1,24 @@
 -- Truth ids and their last partners in a run of 768 numbers, three columns of 256: the ids, whether the partner is known, the partner.
 -- Definitions of what the run stands for, and of every number that a frame writes there.
-use Rattle.std.specs.Prelude.{◌≡◌, List, [], ◌∷◌, ℕ, zero, suc, ◌+◌, ℤ, pos, length, take}
+use Rattle.std.specs.Prelude.{◌≡◌, Option, List, [], ◌∷◌, ℕ, zero, suc, ◌+◌, ℤ, pos, length, take}
 use Rattle.slot_cells.specs.Cells.{partner_of}
 use Rattle.columns.specs.Columns.{cell, put_all}
 use Rattle.ids.specs.declared.Lookup.{Lookup}
 use Rattle.ids.specs.Ids.{seek_of}
 use Rattle.seen.specs.Seen.{over, place_of, used_with, seen_all}
-use Rattle.partners.specs.declared.Last.{Last}
 use Rattle.partners.specs.declared.Truths.{Truths}
 use Rattle.partners.specs.Partners.{truths_of, Pair, booked_of, seen_truths}
 use Rattle.id_runs.specs.Runs.{cleared}
 use Rattle.truths_in_place.specs.declared.Matched.{Matched}
 
 -- ---- what the run stands for
-abbrev pub last_from : ℤ → ℤ → Last
-last_from known partner = record { partner = partner_of known partner }
+abbrev pub last_from : ℤ → ℤ → Option ℤ
+last_from known partner = partner_of known partner
 
-unfoldable pub last_at : List ℤ → ℕ → Last
+unfoldable pub last_at : List ℤ → ℕ → Option ℤ
 last_at table k = last_from (cell table 256 k 1) (cell table 256 k 2)
 
-unfoldable pub lasts_from : List ℤ → ℕ → ℕ → List Last
+unfoldable pub lasts_from : List ℤ → ℕ → ℕ → List (Option ℤ)
 lasts_from table i zero = []
 lasts_from table i (suc n) = last_at table i ∷ lasts_from table (suc i) n
 

@@ -1,5 +1,5 @@
-// Truth ids with their last partners in a lent run of numbers: what it stands for, and the pairs of a frame booked there.
-// Ported from norfair-rs, internal/motmetrics/accumulator.rs, which follows py-motmetrics, and metrics/accumulator.rs (NOTICE).
+//! Truth ids with their last partners in a lent run of numbers: what it stands for, and the pairs of a frame booked there.
+//! Ported from norfair-rs, internal/motmetrics/accumulator.rs, which follows py-motmetrics, and metrics/accumulator.rs (NOTICE).
 #![tactic(auto)]
 
 ghost use Rattle.std.specs.Prelude.{◌≡◌, false, ℕ, ◌*◌, ◌<◌, ◌≤◌, length, get_or};
@@ -7,11 +7,10 @@ ghost use Rattle.slots.specs.Slots.{switches};
 ghost use Rattle.partners.specs.Partners.{last_in, pairs_of, booked_of};
 ghost use Rattle.truths_in_place.specs.Table.{last_from, truths_in, MatchesBooked};
 
-use counts::wide;
 use id_runs::put;
 use ids::Lookup;
 
-// How many places are used in the end, and for each pair, by its number, whether it is a switch.
+/// How many places are used in the end, and for each pair, by its number, whether it is a switch.
 #[derive(Clone, Copy)]
 pub struct Matched {
     pub used: usize,
@@ -28,7 +27,7 @@ fn is_switch(found: Lookup, known: i32, partner: i32, to: i32) -> bool
     slots::is_switch(slot_cells::partner_of(known, partner), to)
 }
 
-// The pairs of a frame, booked in their order.
+/// The pairs of a frame, booked in their order.
 pub fn book_matches(
     table: &mut [i32],
     used: usize,
@@ -40,27 +39,22 @@ pub fn book_matches(
     requires pairs_value { (booked_of (truths_in table.old used) (pairs_of object_ids.now hypothesis_ids.now pairs.now)).full ≡ false }
     ensures { MatchesBooked table.old used (pairs_of object_ids.now hypothesis_ids.now pairs.now) table.new result }
 {
-    let w = hypothesis_ids.len();
+    let columns = hypothesis_ids.len();
     let mut count = used;
     let mut switched = [false; 64];
-    let mut i: usize = 0;
-    while i < pairs.len() {
-        let k = wide(pairs[i]);
-        let row = k / w;
-        let col = k % w;
-        let id = object_ids[row];
-        let to = hypothesis_ids[col];
+    for (i, pair) in pairs.iter().enumerate() {
+        let k = *pair as usize;
+        let id = object_ids[k / columns];
+        let to = hypothesis_ids[k % columns];
         let found = ids::seek(&table[..count], id);
         let at = seen::place_of(found, count);
-        let b = at + 256;
-        let c = b + 256;
-        switched[i] = is_switch(found, table[b], table[c], to);
+        prove!(at < 256);
+        switched[i] = is_switch(found, table[at + 256], table[at + 512], to);
         put(table, at, id, 1, to);
         count = seen::used_with(found, count);
-        i = i + 1;
     }
     Matched {
         used: count,
-        switched: switched,
+        switched,
     }
 }

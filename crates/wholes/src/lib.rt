@@ -1,88 +1,40 @@
-// Whole numbers with a sign, of 32 bits.
+//! Whole numbers with a sign, of 32 bits.
 #![tactic(auto)]
 
-ghost use Rattle.std.specs.Prelude.{◌≡◌, ◌≤◌, ◌<◌, pos, nat_abs};
-ghost use Rattle.wholes.specs.Wholes.{below_zero, plain_of, negated_of, whole_of};
+ghost use Rattle.std.specs.Prelude.{◌≡◌, Some, nat_abs};
+ghost use Rattle.wholes.specs.Wholes.{plain_of, negated_of, whole_of};
 
-use numerals::digits::{Number, decimal};
-
-#[derive(Clone, Copy)]
-pub enum Whole {
-    Int(i32),
-    NoInt,
-}
-
-fn as_int(n: u64) -> i32
-    requires { n < 2147483648 }
-    ensures { result ≡ pos n }
-{
-    n as i32
-}
-
-// By way of -1, so that the least number fits on the way.
-#[tactic(auto, unfolding(crate::specs::Wholes::below_zero))]
-fn below_zero(n: u64) -> i32
-    requires { (0 < n) × (n ≤ 2147483648) }
-    ensures { result ≡ below_zero n }
-{
-    let m = as_int(n - 1);
-    -1 - m
-}
+use numerals::digits::decimal;
 
 #[tactic(auto, unfolding(crate::specs::Wholes::plain_of))]
-fn plain(number: Number) -> Whole
-    ensures { result ≡ plain_of number }
+fn plain(n: u64) -> Option<i32>
+    ensures { result ≡ plain_of (Some n) }
 {
-    match number {
-        Number::Value(n) => {
-            if n < 2147483648 {
-                return Whole::Int(as_int(n));
-            }
-            Whole::NoInt
-        }
-        Number::Nothing => Whole::NoInt,
-    }
+    i32::try_from(n).ok()
 }
 
+// By way of 128 bits, so that the least number fits on the way.
 #[tactic(auto, unfolding(crate::specs::Wholes::negated_of, crate::specs::Wholes::below_zero))]
-fn negated(number: Number) -> Whole
-    ensures { result ≡ negated_of number }
+fn negated(n: u64) -> Option<i32>
+    ensures { result ≡ negated_of (Some n) }
 {
-    match number {
-        Number::Value(n) => {
-            if n == 0 {
-                return Whole::Int(0);
-            }
-            if n <= 2147483648 {
-                return Whole::Int(below_zero(n));
-            }
-            Whole::NoInt
-        }
-        Number::Nothing => Whole::NoInt,
-    }
+    i32::try_from(-i128::from(n)).ok()
 }
 
-// A word of decimal digits, with a minus before them or none.
-#[tactic(auto, unfolding(crate::specs::Wholes::whole_of))]
-pub fn whole_in(word: &[u8]) -> Whole
+/// The number that a word says: decimal digits, with a minus before them or none.
+#[tactic(auto, unfolding(crate::specs::Wholes::whole_of, crate::specs::Wholes::plain_of, crate::specs::Wholes::negated_of))]
+pub fn whole_in(word: &[u8]) -> Option<i32>
     ensures { result ≡ whole_of word.now }
 {
-    if word.len() == 0 {
-        return Whole::NoInt;
+    if !word.is_empty() && word[0] == b'-' {
+        return decimal(&word[1..]).and_then(negated);
     }
-    if word[0] == b'-' {
-        return negated(decimal(&word[1..]));
-    }
-    plain(decimal(word))
+    decimal(word).and_then(plain)
 }
 
-// A number without its sign.
+/// A number without its sign.
 pub fn size(x: i32) -> u64
     ensures { result ≡ nat_abs x }
 {
-    if x < 0 {
-        let y = -1 - x;
-        return y as u64 + 1;
-    }
-    x as u64
+    u64::from(x.unsigned_abs())
 }

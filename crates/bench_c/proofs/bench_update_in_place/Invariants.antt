@@ -4,8 +4,5 @@ use Prim.Native.Nat.{◌≤◌}
 use lib.ListN.{length}
 use Rattle.bench_c.proofs.bench_update_in_place.Given as goal
 
-abbrev pub invariant-loop-left : goal.invariant-loop-left
-invariant-loop-left l = (l.totals.used ≤ 256) × (length l.run ≡ 2304)
-
-abbrev pub decreases-loop-left : goal.decreases-loop-left
-decreases-loop-left l = l.left
+abbrev pub invariant-updates : goal.invariant-updates
+invariant-updates l = (l.totals.used ≤ 256) × (length l.run ≡ 2304)

@@ -29,16 +29,16 @@ totals_in-totals-requires c = let h = lengths _ _ _ c.requires in (h.1, h.2, not
 pub update_checked-c-requires : goal.update_checked-c-requires
 update_checked-c-requires c = (lengths _ _ _ c.requires).0
 
-pub returns-then-number-ne0 : goal.returns-then-number-ne0
-returns-then-number-ne0 c =
-    ways.kept c.args.run.now c.args.counters.now c.args.distance.now c.args.gt_ids.now c.args.gt_bboxes.now c.args.pred_ids.now c.args.pred_bboxes.now c.args.threshold c.requires (not_below (goal.at.returns-then-number-ne0 c).Else-not-not_negative) c.totals_in-totals.result c.totals_in-totals.ensures c.update_checked-c.new.run c.update_checked-c.result c.update_checked-c.ensures c.if-number-ne0.true
+pub returns-then-c-ne0 : goal.returns-then-c-ne0
+returns-then-c-ne0 c =
+    ways.kept c.args.run.now c.args.counters.now c.args.distance.now c.args.gt_ids.now c.args.gt_bboxes.now c.args.pred_ids.now c.args.pred_bboxes.now c.args.threshold c.requires (not_below (goal.at.returns-then-c-ne0 c).Else-not-not_negative) c.totals_in-totals.result c.totals_in-totals.ensures c.update_checked-c.new.run c.update_checked-c.result c.update_checked-c.ensures c.if-c-ne0.true
 
 pub write_totals-requires : goal.write_totals-requires
 write_totals-requires c =
     let h = lengths _ _ _ c.requires in
-    (h.1, h.2, c.update_checked-c.ensures.within c.if-number-ne0.false)
+    (h.1, h.2, c.update_checked-c.ensures.within c.if-c-ne0.false)
 
 pub returns : goal.returns
 returns c =
-    ways.written c.args.run.now c.args.counters.now c.args.distance.now c.args.gt_ids.now c.args.gt_bboxes.now c.args.pred_ids.now c.args.pred_bboxes.now c.args.threshold c.requires (not_below (goal.at.returns c).Else-not-not_negative) c.totals_in-totals.result c.totals_in-totals.ensures c.update_checked-c.new.run c.update_checked-c.result c.update_checked-c.ensures c.if-number-ne0.false
+    ways.written c.args.run.now c.args.counters.now c.args.distance.now c.args.gt_ids.now c.args.gt_bboxes.now c.args.pred_ids.now c.args.pred_bboxes.now c.args.threshold c.requires (not_below (goal.at.returns c).Else-not-not_negative) c.totals_in-totals.result c.totals_in-totals.ensures c.update_checked-c.new.run c.update_checked-c.result c.update_checked-c.ensures c.if-c-ne0.false
     c.write_totals.new.counters c.write_totals.new.distance c.write_totals.ensures.0 c.write_totals.ensures.1

@@ -1,27 +1,25 @@
 -- `extended_flat::write_totals` meets its contract. Assumes nothing.
 use mathlib.Core.Path.{◌∙◌}
 use mathlib.Core.List.{[], ◌∷◌}
-use lib.Seq.{sets}
 use Rattle.counts.proofs.Sums.{small}
 use native.Mathlib.Omega.{arith}
 use Rattle.counts.proofs.Ids.{back}
-use Rattle.extended_flat.specs.Flat.{counters_of}
 use Rattle.sizes.proofs.Laws.{whole_written}
 use Rattle.extended_flat.proofs.write_totals.Goals as goal
 
 pub returns : goal.returns
 returns c =
     let t = c.args.t in
-    let g = c.struct_told-6-1.given in
+    let g = c.struct_told-1.given in
     let h = c.requires.2 in (
-      (λ i. sets c.args.counters.now 0 (small t.used (omega arith) i
+      c.copy_from_slice.ensures.after
+          ∙ (λ i. small t.used (omega arith) i
           ∷ back t.frame_id g.1.0.1 i
           ∷ back t.num_matches g.1.1.0.1 i
           ∷ back t.num_misses g.1.1.1.0.1 i
           ∷ back t.num_false_positives g.1.1.1.1.0.1 i
           ∷ back t.num_switches g.1.1.1.1.1.0.1 i
           ∷ back t.num_objects g.1.1.1.1.1.1.0.1 i
-          ∷ []))
-          ∙ whole_written c.args.counters.now (counters_of t) c.requires.0,
+          ∷ []),
       whole_written c.args.distance.now (t.total_distance ∷ []) c.requires.1,
     )

@@ -1,11 +1,6 @@
--- `id_runs::count_new` meets its contract. The new ids so far stand behind the known ones, and the rest are to come. Assumes nothing.
-use Prim.Native.Nat.{◌≤◌, ◌-◌}
-use lib.ListN.{length}
-use Rattle.id_runs.proofs.Counting as law
+-- `id_runs::count_new` meets its contract. Assumes nothing.
+use Rattle.id_runs.proofs.Counting.{Counting}
 use Rattle.id_runs.proofs.count_new.Given as goal
 
-abbrev pub invariant-loop-i : goal.invariant-loop-i
-invariant-loop-i l = (l.i ≤ length l.ids) × law.Counting l.known l.ids l.fresh l.count l.i
-
-abbrev pub decreases-loop-i : goal.decreases-loop-i
-decreases-loop-i l = length l.ids - l.i
+abbrev pub invariant-loop-id : goal.invariant-loop-id
+invariant-loop-id l = Counting l.known l.ids l.fresh l.count l.id-index

@@ -11,15 +11,15 @@ use Rattle.id_runs.proofs.Counting.{all_short, fits}
 use Rattle.truths_in_place.proofs.Room.{matches_told}
 use Rattle.ids_in_place.proofs.matches_fit.Goals as goal
 
-pub returns-then-used-n-le256 : goal.returns-then-used-n-le256
-returns-then-used-n-le256 c =
+pub returns-then-used-pairs-le256 : goal.returns-then-used-pairs-le256
+returns-then-used-pairs-le256 c =
     let l = row_ids_of c.args.object_ids.now (length c.args.hypothesis_ids.now) c.args.pairs.now in
     let n = c.requires.0 in
     let m = c.requires.1 in
     let h = all_short (take c.args.used c.args.table.now) l in
     let k = length-take-le c.args.used c.args.table.now (omega arith) in
     let j = length-map c.args.pairs.now (λ (k : ℕ). get_or c.args.object_ids.now (k / length c.args.hypothesis_ids.now) (pos 0)) in
-    let t = c.if-used-n-le256.true in
+    let t = c.if-used-pairs-le256.true in
     fits 256 (take c.args.used c.args.table.now) l (omega arith) ∙ matches_told c.args.table.now c.args.used n c.args.object_ids.now c.args.hypothesis_ids.now c.args.pairs.now
 
 pub returns : goal.returns

@@ -6,7 +6,3 @@ use Rattle.scores.proofs.f1.Goals as goal
 pub returns-then-sum : goal.returns-then-sum
 unfolding f1_of of_bits
 returns-then-sum c = rw c.if-sum.true
-
-pub returns : goal.returns
-unfolding f1_of of_bits
-returns c = rw c.if-sum.false

@@ -4,10 +4,10 @@ use Rattle.metrics_in_place.specs.InPlace.{runs_of}
 use Rattle.metrics_in_place.proofs.Kept.{used_kept}
 use Rattle.bench_c.proofs.metric_updates.bench_metrics_update_in_place.Goals as goal
 
-pub loop-left-preserved : goal.loop-left-preserved
-loop-left-preserved c =
-    let w = c.loop-left.invariant in
-    let k = used_kept (runs_of c.loop-left.numbers c.loop-left.log_distances c.loop-left.table c.loop-left.hypotheses) c.loop-left.used _ c.args.gt_ids.now c.args.hyp_ids.now c.args.gt_boxes.now c.args.hyp_boxes.now c.args.iou_threshold
+pub updates-preserved : goal.updates-preserved
+updates-preserved c =
+    let w = c.updates.invariant in
+    let k = used_kept (runs_of c.updates.numbers c.updates.log_distances c.updates.table c.updates.hypotheses) c.updates.used _ c.args.gt_ids.now c.args.hyp_ids.now c.args.gt_boxes.now c.args.hyp_boxes.now c.args.iou_threshold
     (w.few_events, w.few_truths, w.few_hypotheses) _ c.update_in_place-c.result c.update_in_place-c.ensures in
     let n = c.update_in_place-c.auto in
     record {

@@ -2,10 +2,6 @@
 use Rattle.metrics_in_place.specs.InPlace.{runs_of, Within}
 use Rattle.bench_c.proofs.metric_updates.bench_metrics_update_in_place.Given as goal
 
-abbrev pub invariant-loop-left : goal.invariant-loop-left
-invariant-loop-left l =
+abbrev pub invariant-updates : goal.invariant-updates
+invariant-updates l =
     Within (runs_of l.numbers l.log_distances l.table l.hypotheses) l.used
-
-abbrev pub decreases-loop-left : goal.decreases-loop-left
-decreases-loop-left l =
-    l.left

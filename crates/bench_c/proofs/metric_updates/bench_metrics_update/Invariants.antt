@@ -1,8 +1,0 @@
--- `bench_c::metric_updates::bench_metrics_update` is safe and ends. Assumes nothing.
-use Rattle.bench_c.proofs.metric_updates.bench_metrics_update.Given as goal
-
-abbrev pub invariant-loop-left : goal.invariant-loop-left
-invariant-loop-left l = Unit {0}
-
-abbrev pub decreases-loop-left : goal.decreases-loop-left
-decreases-loop-left l = l.left

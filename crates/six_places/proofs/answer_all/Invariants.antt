@@ -1,4 +1,0 @@
-use Rattle.six_places.proofs.answer_all.Given as goal
-
-abbrev pub decreases-loop-turns : goal.decreases-loop-turns
-decreases-loop-turns l = l.turns
