@@ -17,7 +17,7 @@ use Rattle.floats.specs.Whole.{IsWhole}
 use Rattle.floats.proofs.Order.{zero_of}
 use Rattle.floats.proofs.Whole.{whole_le}
 use Rattle.boxes.specs.declared.Box.{Box}
-use Rattle.iou.specs.declared.Distance.TheVariants.{Value}
+use Rattle.std.proofs.Common.{Ok}
 use Rattle.iou.specs.Boxes.{bad_box, intersection_of, away_of, distance_of, iou_distance_of}
 use Rattle.iou.specs.Whole.{Corners, InRange, HasCorners, area_z, overlap_z, intersection_z, union_z}
 use Rattle.iou.proofs.Integers.{gap, overlap_after, overlap_before}
@@ -87,14 +87,14 @@ area_above k h =
 
 module _ (a b : Box) (j k : Corners) (ja : InRange j) (kb : InRange k) (ca : HasCorners a j) (cb : HasCorners b k) (pa : bad_box a ≡ false) (pb : bad_box b ≡ false) where
   -- no area in common: 1.0
-  pub apart : intersection_z j k ≡ pos 0 → iou_distance_of a b ≡ Value one64
+  pub apart : intersection_z j k ≡ pos 0 → iou_distance_of a b ≡ Ok one64
   unfolding iou_distance_of distance_of
   apart z =
       let p = area_above j (proper a j ca pa) in
       let q = area_above k (proper b k cb pb) in
       let union : union_z j k ≡ pos (suc (p.0 + suc q.0)) = rw (p.1, q.1, z) (ap pos (omega arith)) in
       rw (pa, pb)
-      (ap Value
+      (ap Ok
       (away_one _ _ (p.0 + suc q.0) (subst (IsWhole (intersection_of a b)) z (intersection_exact a b j k ja kb ca cb))
       (subst (IsWhole _) union (union_exact a b j k ja kb ca cb))))
 
@@ -102,7 +102,7 @@ module _ (a b : Box) (j k : Corners) (ja : InRange j) (kb : InRange k) (ca : Has
   abbrev Touching : Type 0
   Touching = (j.x1 ≡ k.x0) ⊎ ((j.x0 ≡ k.x1) ⊎ ((j.y1 ≡ k.y0) ⊎ (j.y0 ≡ k.y1)))
 
-  pub touching : Touching → iou_distance_of a b ≡ Value one64
+  pub touching : Touching → iou_distance_of a b ≡ Ok one64
   touching t = apart (shared t)
     where
       p : Proper j

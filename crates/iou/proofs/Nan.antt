@@ -5,7 +5,7 @@ use lib.Ieee.{Float, nan, inf, fin, Format, binary64, add, sub, mul, div, eq, lt
 use Rattle.floats.specs.Float.{min_of, max_of, zero64}
 use Rattle.floats.proofs.Tests.{is_nan_lem}
 use Rattle.boxes.specs.declared.Box.{Box}
-use Rattle.iou.specs.declared.Distance.TheVariants.{Value}
+use Rattle.std.proofs.Common.{Ok}
 use Rattle.iou.specs.Boxes.{bad_box, any_nan, area_of, rectangle_of, intersection_of, union_of, away_of, distance_of, iou_distance_of, clamped_of, shared_of, quotient_of, iou_share_of}
 
 -- ---- a NaN goes through every step
@@ -76,9 +76,9 @@ unfolding distance_of
 distance_nan a b true e h = rw (area_nan a e, union_nan_first) (away_nan _)
 distance_nan a b false e h = rw (area_nan b h, union_nan_second) (away_nan _)
 
-pub nan_distance : (a b : Box) → bad_box a ≡ false → bad_box b ≡ false → (any_nan a || any_nan b) ≡ true → iou_distance_of a b ≡ Value nan
+pub nan_distance : (a b : Box) → bad_box a ≡ false → bad_box b ≡ false → (any_nan a || any_nan b) ≡ true → iou_distance_of a b ≡ Ok nan
 unfolding iou_distance_of
-nan_distance a b p q h = rw (p, q) (ap Value (distance_nan a b (any_nan a) refl h))
+nan_distance a b p q h = rw (p, q) (ap Ok (distance_nan a b (any_nan a) refl h))
 
 -- ---- one comparison is enough where the first operand is a number
 pub upper_is_max : (x y : Float) → is_nan x ≡ false → cond (lt x y) y x ≡ max_of x y

@@ -6,14 +6,8 @@ ghost use Rattle.std.specs.Prelude.{◌≡◌, false};
 ghost use Rattle.iou.specs.Boxes.{any_nan, area_of, intersection_of, distance_of, Answered, shared_of, iou_share_of};
 
 use boxes::{Box, area, is_bad};
+use refusals::Refusal;
 use sides::{clamp, lower, rectangle, upper};
-
-// What iou_distance answers: refusal 4, or a distance.
-#[derive(Clone, Copy)]
-pub enum Distance {
-    Refused,
-    Value(f64),
-}
 
 fn intersection(box1: Box, box2: Box) -> f64
     ensures { any_nan box1 ≡ false → result ≡ intersection_of box1 box2 }
@@ -25,7 +19,7 @@ fn intersection(box1: Box, box2: Box) -> f64
     rectangle(x_min_inter, y_min_inter, x_max_inter, y_max_inter)
 }
 
-// The distance of two boxes that are not refused, with their areas at hand: a matrix takes each box's area once.
+/// The distance of two boxes that are not refused, with their areas at hand: a matrix takes each box's area once.
 pub fn box_distance(box1: Box, area1: f64, box2: Box, area2: f64) -> f64
     requires { (area1 ≡ area_of box1) × (area2 ≡ area_of box2) }
     ensures { result ≡ distance_of box1 box2 }
@@ -38,17 +32,17 @@ pub fn box_distance(box1: Box, area1: f64, box2: Box, area2: f64) -> f64
     1.0 - inter / union
 }
 
-// 1.0 less the intersection's share of the union: 0.0 for equal boxes, 1.0 for boxes that share nothing.
-pub fn iou_distance(box1: Box, box2: Box) -> Distance
+/// 1.0 less the intersection's share of the union: 0.0 for equal boxes, 1.0 for boxes that share nothing.
+///
+/// # Errors
+/// `EmptyBox` where one of the boxes has no width or no height.
+pub fn iou_distance(box1: Box, box2: Box) -> Result<f64, Refusal>
     ensures { Answered box1 box2 result }
 {
-    if is_bad(box1) {
-        return Distance::Refused;
+    if is_bad(box1) || is_bad(box2) {
+        return Err(Refusal::EmptyBox);
     }
-    if is_bad(box2) {
-        return Distance::Refused;
-    }
-    Distance::Value(box_distance(box1, area(box1), box2, area(box2)))
+    Ok(box_distance(box1, area(box1), box2, area(box2)))
 }
 
 fn shared(box1: Box, box2: Box) -> f64
@@ -59,7 +53,7 @@ fn shared(box1: Box, box2: Box) -> f64
     clamp(inter_w) * clamp(inter_h)
 }
 
-// The share of two boxes, with their areas at hand.
+/// The share of two boxes, with their areas at hand.
 pub fn box_share(box1: Box, area1: f64, box2: Box, area2: f64) -> f64
     requires { (area1 ≡ area_of box1) × (area2 ≡ area_of box2) }
     ensures { result ≡ iou_share_of box1 box2 }
@@ -73,7 +67,7 @@ pub fn box_share(box1: Box, area1: f64, box2: Box, area2: f64) -> f64
     }
 }
 
-// What iou_matrix has for two boxes: the intersection's share of the union, and 0.0 where the union is not above 0.
+/// What iou_matrix has for two boxes: the intersection's share of the union, and 0.0 where the union is not above 0.
 pub fn iou_share(box1: Box, box2: Box) -> f64
     ensures { result ≡ iou_share_of box1 box2 }
 {

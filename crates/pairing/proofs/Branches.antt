@@ -13,10 +13,9 @@ use Rattle.optimize.specs.declared.AssignmentResult.{AssignmentResult}
 use Rattle.optimize.specs.Answer.{rows_alone}
 use Rattle.solver.specs.Solution.{solution_of}
 use Rattle.solver.proofs.Lists.{solution_alone, alone_at}
-use Rattle.pairing.specs.declared.Pairing.{Pairing}
 use Rattle.shape.specs.Shape.{shape_no}
 use Rattle.shape.proofs.Sides.{Side, sides}
-use Rattle.pairing.specs.Pairing.{pairing_no, sum_of, no_pairs, pairs_in, paired_of, frame_pairs, pairing_of}
+use Rattle.pairing.specs.Pairing.{Pairing, pairing_no, sum_of, no_pairs, pairs_in, paired_of, frame_pairs, pairing_of}
 use Rattle.optimize.proofs.Number.{taken}
 use Rattle.pairing.proofs.Ways.{accept}
 

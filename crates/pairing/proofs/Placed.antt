@@ -9,7 +9,7 @@ use Rattle.optimize.specs.declared.AssignmentResult.{AssignmentResult}
 use Rattle.solver.specs.Solution.{solution_of}
 use Rattle.optimize.proofs.Number.{taken}
 use Rattle.solver.proofs.Lists.{Placed, solution_placed}
-use Rattle.pairing.specs.Pairing.{rows_of, cols_of, sum_of, pairs_in, paired_of}
+use Rattle.pairing.specs.Pairing.{rows_of, cols_of, sum_of, pairs_in, paired_of, found}
 use Rattle.pairing.proofs.Sums.{in_run}
 
 module _ (m : List Float) (h w : ℕ) (limit : Float) (a : AssignmentResult) (is : a ≡ solution_of m h w limit)
@@ -27,8 +27,7 @@ module _ (m : List Float) (h w : ℕ) (limit : Float) (a : AssignmentResult) (is
         (subst (λ (x : List ℕ). get_or x k 0 < w) (sym c) (place.col_in k l)) long
 
     pub made : (total d : Float) → d ≡ sum_of m w rows cols a.num_assignments total
-        → record {
-          number = 0;
+        → found record {
           pair_rows = rows;
           pair_cols = cols;
           left_rows = a.unmatched_rows;

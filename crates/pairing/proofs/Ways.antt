@@ -2,6 +2,7 @@
 use mathlib.Core.Path.{◌≡◌, refl, sym, ap, ◌∙◌}
 use mathlib.Core.List.{List}
 use Prim.Native.Nat.{ℕ, zero, suc, ◌*◌, ◌/◌, ◌≤◌}
+use native.Mathlib.Omega.{arith}
 use borrow.Author.Tests.{eq-eqb, ne_eqb}
 use lib.ListN.{length, take}
 use lib.Seq.{take_at}
@@ -10,11 +11,23 @@ use Rattle.floats.specs.Float.{zero64}
 use Rattle.matrix.specs.Matrix.{matrix_of, overwrite, matrix_after, distance_matrix_no}
 use Rattle.matrix.specs.declared.Measure.TheVariants.{Away}
 use Rattle.matrix.proofs.Laws.{length_matrix, or_first}
-use Rattle.pairing.specs.declared.Pairing.{Pairing}
 use Rattle.shape.specs.Shape.{shape_no}
 use Rattle.shape.proofs.Sides.{Side, sides, room, or_next}
-use Rattle.pairing.specs.Pairing.{pairing_no, no_pairs, paired_of, frame_pairs, pairing_at, pairing_of}
+use Rattle.refusals.specs.Refusals.{number_of}
+use Rattle.refusals.specs.declared.Refusal.{Refusal}
+use Rattle.refusals.specs.declared.Refusal.TheVariants.{Unsound, TooMany, Misfit, EmptyBox, FullTable, NoRoom, Overflow}
+use Rattle.pairing.specs.Pairing.{Pairing, pairing_no, no_pairs, paired_of, frame_pairs, pairing_at, pairing_of}
 use Rattle.pairing.proofs.Numbers.{boxes_no}
+
+-- a refusal's number is not 0
+pub number_ne : (r : Refusal) → number_of r ≡ 0 → ⊥
+number_ne Unsound e = omega arith
+number_ne TooMany e = omega arith
+number_ne Misfit e = omega arith
+number_ne EmptyBox e = omega arith
+number_ne FullTable e = omega arith
+number_ne NoRoom e = omega arith
+number_ne Overflow e = omega arith
 
 refused : (n : ℕ) (p : Pairing) → (n ≡ 0 → ⊥) → no_pairs n 0 zero64 ≡ pairing_at n p
 refused zero p x = absurd (x refl)

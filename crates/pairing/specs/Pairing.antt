@@ -1,5 +1,5 @@
 -- Document 01, "Lifecycles and events" and refusals 2, 3 and 4: how a frame's truth boxes are paired with its predictions.
-use Rattle.std.specs.Prelude.{cond, List, map, ℕ, zero, suc, eqb, length, get_or, replicate, Float}
+use Rattle.std.specs.Prelude.{cond, List, map, ℕ, zero, suc, eqb, length, get_or, replicate, Float, Result, Ok, Err}
 use Rattle.std.specs.Float.Ieee.{add}
 use Rattle.std.specs.Float.{binary64}
 use Rattle.floats.specs.Float.{zero64}
@@ -10,7 +10,20 @@ use Rattle.start.specs.Steps.{entry}
 use Rattle.optimize.specs.declared.Assignment.{Assignment}
 use Rattle.optimize.specs.declared.AssignmentResult.{AssignmentResult}
 use Rattle.solver.specs.Solution.{solution_of}
-use Rattle.pairing.specs.declared.Pairing.{Pairing}
+use Rattle.refusals.specs.Refusals.{number_of}
+use Rattle.refusals.specs.declared.Refusal.{Refusal}
+use Rattle.pairing.specs.declared.Pairing.{Pairing as Paired}
+
+-- a refusal's number, or 0, and the pairing: the pairs by row and column, the rows left, the predictions that are extra, the total
+pub record Pairing : Type 0 where
+  pub number : ℕ
+  pub pair_rows : List ℕ
+  pub pair_cols : List ℕ
+  pub left_rows : List ℕ
+  pub pairs : ℕ
+  pub lefts : ℕ
+  pub extra : ℕ
+  pub distance : Float
 
 -- ---- the numbers 2 and 3 by the shape, then 4
 -- 4: a bad box, where both sides have one
@@ -74,3 +87,21 @@ pairing_at (suc number) p = no_pairs (suc number) 0 zero64
 unfoldable pub pairing_of : ℕ → List Float → ℕ → List Float → Float → Float → Pairing
 pairing_of gt_ids gt pred_ids pred limit total =
     pairing_at (pairing_no gt_ids gt pred_ids pred) (frame_pairs gt_ids gt pred_ids pred limit total)
+
+-- ---- what a call gives, as a pairing: the number 0 with what it found, or a refusal's number with zeros
+abbrev pub found : Paired → Pairing
+found p =
+    record {
+      number = 0;
+      pair_rows = p.pair_rows;
+      pair_cols = p.pair_cols;
+      left_rows = p.left_rows;
+      pairs = p.pairs;
+      lefts = p.lefts;
+      extra = p.extra;
+      distance = p.distance;
+    }
+
+abbrev pub answered : Result Paired Refusal → Pairing
+answered (Ok p) = found p
+answered (Err r) = no_pairs (number_of r) 0 zero64

@@ -1,18 +1,18 @@
-// How a frame's truth boxes are paired with its predictions, or which of the numbers 2, 3 and 4 it gets.
+// How a frame's truth boxes are paired with its predictions, or why it is refused: too many of them, a misfit, a bad box.
 // Ported from norfair-rs, internal/motmetrics/accumulator.rs, which follows py-motmetrics (NOTICE).
 #![tactic(auto)]
 
 ghost use Rattle.std.specs.Prelude.{◌≡◌, ℕ, ◌+◌, ◌*◌, ◌<◌, ◌≤◌, length, get_or};
 ghost use Rattle.shape.specs.Shape.{shape_no};
-ghost use Rattle.pairing.specs.Pairing.{rows_of, cols_of, sum_of, paired_of, no_pairs, pairing_of};
+ghost use Rattle.pairing.specs.Pairing.{rows_of, cols_of, sum_of, paired_of, no_pairs, pairing_of, found, answered};
 
 use optimize::Assignment;
+use refusals::Refusal;
 
-// The pairs by row and column, the rows that are left, and how many predictions are extra; zeros beyond each count.
-// The distance is the total so far with that of every pair added, in order.
+/// The pairs by row and column, the rows that are left, and how many predictions are extra; zeros beyond each count.
+/// The distance is the total so far with that of every pair added, in order.
 #[derive(Clone, Copy)]
 pub struct Pairing {
-    pub number: u32,
     pub pair_rows: [usize; 64],
     pub pair_cols: [usize; 64],
     pub left_rows: [usize; 64],
@@ -22,34 +22,13 @@ pub struct Pairing {
     pub distance: f64,
 }
 
-// The rows of the pairs. All 64 places: those beyond the pairs are 0 in the solver's list.
-fn rows_of(pairs: [Assignment; 64]) -> [usize; 64]
-    ensures { result ≡ rows_of pairs }
+// The rows and the columns of the pairs, all 64 places: those beyond the pairs are 0 in the solver's list.
+fn indices(assignments: [Assignment; 64]) -> ([usize; 64], [usize; 64])
+    ensures { (result.0 ≡ rows_of assignments) × (result.1 ≡ cols_of assignments) }
 {
-    let mut rows = [0usize; 64];
-    let mut k: usize = 0;
-    while k < 64 {
-        let pair = pairs[k];
-        let row = pair.row_idx;
-        rows[k] = row;
-        k = k + 1;
-    }
-    rows
-}
-
-// The columns of the pairs, all 64 places.
-fn cols_of(pairs: [Assignment; 64]) -> [usize; 64]
-    ensures { result ≡ cols_of pairs }
-{
-    let mut cols = [0usize; 64];
-    let mut k: usize = 0;
-    while k < 64 {
-        let pair = pairs[k];
-        let col = pair.col_idx;
-        cols[k] = col;
-        k = k + 1;
-    }
-    cols
+    let rows = assignments.map(|pair| pair.row_idx);
+    let cols = assignments.map(|pair| pair.col_idx);
+    (rows, cols)
 }
 
 // The distances of the pairs, added to the total in their order.
@@ -64,28 +43,25 @@ fn sum_distances(
     requires { (pairs ≤ 64) × ((k : ℕ) → k < pairs → get_or rows.now k 0 * w + get_or cols.now k 0 < length m.now) }
     ensures { result ≡ sum_of m.now w rows.now cols.now pairs total }
 {
-    let mut d = total;
-    let mut k: usize = 0;
-    while k < pairs {
-        let i = rows[k];
-        let j = cols[k];
-        d = d + m[i * w + j];
-        k = k + 1;
+    let mut sum = total;
+    for k in 0..pairs {
+        sum += m[rows[k] * w + cols[k]];
     }
-    d
+    sum
 }
 
-fn no_pairs(number: u32, extra: usize, total: f64) -> Pairing
-    ensures { result ≡ no_pairs number extra total }
+// No pair and no row left: predictions that are all extra, and the total as it was.
+#[tactic(auto, unfolding(crate::specs::Pairing::no_pairs))]
+fn no_pairs(extra: usize, total: f64) -> Pairing
+    ensures { found result ≡ no_pairs 0 extra total }
 {
     Pairing {
-        number: number,
-        pair_rows: [0usize; 64],
-        pair_cols: [0usize; 64],
-        left_rows: [0usize; 64],
+        pair_rows: [0; 64],
+        pair_cols: [0; 64],
+        left_rows: [0; 64],
         pairs: 0,
         lefts: 0,
-        extra: extra,
+        extra,
         distance: total,
     }
 }
@@ -93,24 +69,22 @@ fn no_pairs(number: u32, extra: usize, total: f64) -> Pairing
 // The pairing of a frame with truth, whose distances are known.
 fn paired(m: &[f64], h: usize, w: usize, max_cost: f64, total: f64) -> Pairing
     requires { (0 < h) × (h ≤ 64) × (w ≤ 64) × (length m.now ≡ h * w) }
-    ensures { result ≡ paired_of m.now h w max_cost total }
+    ensures { found result ≡ paired_of m.now h w max_cost total }
 {
-    let a = solver::solve(m, h, w, max_cost);
-    let assignments = a.assignments;
-    let left_rows = a.unmatched_rows;
-    let pairs = a.num_assignments;
-    let rows = rows_of(assignments);
-    let cols = cols_of(assignments);
-    let distance = sum_distances(m, w, &rows, &cols, pairs, total);
+    let found = solver::solve(m, h, w, max_cost);
+    let assignments = found.assignments;
+    let left_rows = found.unmatched_rows;
+    let pairs = found.num_assignments;
+    let (pair_rows, pair_cols) = indices(assignments);
+    let distance = sum_distances(m, w, &pair_rows, &pair_cols, pairs, total);
     Pairing {
-        number: 0,
-        pair_rows: rows,
-        pair_cols: cols,
-        left_rows: left_rows,
-        pairs: pairs,
-        lefts: a.num_unmatched_rows,
-        extra: a.num_unmatched_cols,
-        distance: distance,
+        pair_rows,
+        pair_cols,
+        left_rows,
+        pairs,
+        lefts: found.num_unmatched_rows,
+        extra: found.num_unmatched_cols,
+        distance,
     }
 }
 
@@ -123,64 +97,34 @@ fn pair_in(
     threshold: f64,
     total: f64,
     m: &mut [f64],
-) -> Pairing
-    requires pred_bboxes_value { shape_no gt_ids (length gt_bboxes.now) pred_ids (length pred_bboxes.now) ≡ 0 }
-    requires pred_ids_in_bounds { gt_ids * pred_ids ≤ length m.old }
-    ensures { result ≡ pairing_of gt_ids gt_bboxes.now pred_ids pred_bboxes.now threshold total }
+) -> Result<Pairing, Refusal>
+    requires in_shape { shape_no gt_ids (length gt_bboxes.now) pred_ids (length pred_bboxes.now) ≡ 0 }
+    requires has_room { gt_ids * pred_ids ≤ length m.old }
+    ensures { answered result ≡ pairing_of gt_ids gt_bboxes.now pred_ids pred_bboxes.now threshold total }
 {
-    let boxes = matrix::compute_iou_distance_matrix(gt_bboxes, pred_bboxes, m);
-    if boxes != 0 {
-        return no_pairs(boxes, 0, 0.0);
-    }
+    matrix::write_distances(gt_bboxes, pred_bboxes, m)?;
     if gt_ids == 0 {
-        return no_pairs(0, pred_ids, total);
+        return Ok(no_pairs(pred_ids, total));
     }
     let n = gt_ids * pred_ids;
-    paired(&m[..n], gt_ids, pred_ids, threshold, total)
+    Ok(paired(&m[..n], gt_ids, pred_ids, threshold, total))
 }
 
-// The pairing of a frame of so many ids and these boxes, or its number. The total is the sum of distances so far.
-// (Three sizes of matrix: to clear 4,096 places costs more than all else of a small frame.)
-pub fn pair(
+// The pairing of a frame in shape whose distances fit N places.
+fn pair_within<const N: usize>(
     gt_ids: usize,
     gt_bboxes: &[f64],
     pred_ids: usize,
     pred_bboxes: &[f64],
     threshold: f64,
     total: f64,
-) -> Pairing
-    ensures { result ≡ pairing_of gt_ids gt_bboxes.now pred_ids pred_bboxes.now threshold total }
+) -> Result<Pairing, Refusal>
+    requires in_shape { shape_no gt_ids (length gt_bboxes.now) pred_ids (length pred_bboxes.now) ≡ 0 }
+    requires has_room { gt_ids * pred_ids ≤ N }
+    requires few { N ≤ 4096 }
+    ensures { answered result ≡ pairing_of gt_ids gt_bboxes.now pred_ids pred_bboxes.now threshold total }
 {
-    let shape = shape::shape_no(gt_ids, gt_bboxes.len(), pred_ids, pred_bboxes.len());
-    if shape != 0 {
-        return no_pairs(shape, 0, 0.0);
-    }
-    let n = gt_ids * pred_ids;
-    if n <= 64 {
-        let mut small = [0.0f64; 64];
-        return pair_in(
-            gt_ids,
-            gt_bboxes,
-            pred_ids,
-            pred_bboxes,
-            threshold,
-            total,
-            &mut small,
-        );
-    }
-    if n <= 1024 {
-        let mut middle = [0.0f64; 1024];
-        return pair_in(
-            gt_ids,
-            gt_bboxes,
-            pred_ids,
-            pred_bboxes,
-            threshold,
-            total,
-            &mut middle,
-        );
-    }
-    let mut large = [0.0f64; 4096];
+    let mut m = [0.0; N];
     pair_in(
         gt_ids,
         gt_bboxes,
@@ -188,6 +132,32 @@ pub fn pair(
         pred_bboxes,
         threshold,
         total,
-        &mut large,
+        &mut m,
     )
+}
+
+/// The pairing of a frame of so many ids and these boxes. `total` is the sum of distances so far.
+///
+/// # Errors
+/// The first that applies of `TooMany`, `Misfit` and `EmptyBox`.
+pub fn pair(
+    gt_ids: usize,
+    gt_bboxes: &[f64],
+    pred_ids: usize,
+    pred_bboxes: &[f64],
+    threshold: f64,
+    total: f64,
+) -> Result<Pairing, Refusal>
+    ensures { answered result ≡ pairing_of gt_ids gt_bboxes.now pred_ids pred_bboxes.now threshold total }
+{
+    shape::check_shape(gt_ids, gt_bboxes.len(), pred_ids, pred_bboxes.len())?;
+    // To clear 4,096 places costs more than all else of a small frame.
+    let n = gt_ids * pred_ids;
+    if n <= 64 {
+        pair_within::<64>(gt_ids, gt_bboxes, pred_ids, pred_bboxes, threshold, total)
+    } else if n <= 1024 {
+        pair_within::<1024>(gt_ids, gt_bboxes, pred_ids, pred_bboxes, threshold, total)
+    } else {
+        pair_within::<4096>(gt_ids, gt_bboxes, pred_ids, pred_bboxes, threshold, total)
+    }
 }

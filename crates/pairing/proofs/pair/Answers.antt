@@ -1,21 +1,26 @@
 -- `pairing::pair` meets its contract. Assumes nothing.
-use mathlib.Core.Path.{sym, ◌∙◌}
+use mathlib.Core.Path.{◌≡◌, refl, ◌∙◌}
 use native.Mathlib.Omega.{arith}
-use lib.Ieee.{of_bits}
+use Rattle.std.proofs.Common.{rules}
+use Rattle.floats.specs.Float.{zero64}
+use Rattle.refusals.specs.Refusals.{number_of}
+use Rattle.pairing.specs.Pairing.{no_pairs, answered}
 use Rattle.pairing.proofs.Ways as ways
 use Rattle.pairing.proofs.pair.Goals as goal
 
-pub returns-then-shape-ne0 : goal.returns-then-shape-ne0
-unfolding of_bits
-returns-then-shape-ne0 c =
-    c.no_pairs.ensures
-    ∙ ways.misshapen c.args.gt_ids c.args.gt_bboxes.now c.args.pred_ids c.args.pred_bboxes.now c.args.threshold c.args.total c.shape_no-shape.result c.shape_no-shape.ensures c.if-shape-ne0.true
+pub returns-in_err-check_shape : goal.returns-in_err-check_shape
+returns-in_err-check_shape c =
+    let r = c.in_err-check_shape.field-0.0 in
+    let e : answered c.from_residual.result ≡ no_pairs (number_of c.in_err-check_shape.field-0.0) 0 zero64 = search rules in
+    e
+    ∙ ways.misshapen c.args.gt_ids c.args.gt_bboxes.now c.args.pred_ids c.args.pred_bboxes.now c.args.threshold c.args.total
+    (number_of r) c.in_err-check_shape.ensures (ways.number_ne r)
 
 pub overflow_mul-n : goal.overflow_mul-n
 overflow_mul-n c =
-    let h = ways.fit c.args.gt_ids c.args.gt_bboxes.now c.args.pred_ids c.args.pred_bboxes.now c.args.threshold c.args.total c.shape_no-shape.result c.shape_no-shape.ensures c.if-shape-ne0.false in
+    let h = ways.fit c.args.gt_ids c.args.gt_bboxes.now c.args.pred_ids c.args.pred_bboxes.now c.args.threshold c.args.total 0 c.in_ok-check_shape.ensures refl in
     record { fits = omega arith }
 
-pub pair_in-requires-2 : goal.pair_in-requires-2
-pair_in-requires-2 c =
-    record { pred_bboxes_value = sym c.shape_no-shape.ensures ∙ c.if-shape-ne0.false; pred_ids_in_bounds = ways.fit c.args.gt_ids c.args.gt_bboxes.now c.args.pred_ids c.args.pred_bboxes.now c.args.threshold c.args.total c.shape_no-shape.result c.shape_no-shape.ensures c.if-shape-ne0.false }
+pub pair_within-requires-else-n-le1024-clause-has_room : goal.pair_within-requires-else-n-le1024-clause-has_room
+pair_within-requires-else-n-le1024-clause-has_room c =
+    ways.fit c.args.gt_ids c.args.gt_bboxes.now c.args.pred_ids c.args.pred_bboxes.now c.args.threshold c.args.total 0 c.in_ok-check_shape.ensures refl
