@@ -7,7 +7,8 @@ ghost use Rattle.columns.specs.Columns.{Within, cells_at, put};
 
 use slot_cells::Cells;
 
-// The numbers at a place of a run with so many places a column.
+/// The numbers at a place of a run with so many places a column.
+#[tactic(auto, unfolding(crate::specs::Columns::cells_at))]
 pub fn read(run: &[i32], places: usize, k: usize) -> Cells
     requires { Within (length run.now) places k }
     ensures { result ≡ cells_at run.now places k }
@@ -33,20 +34,23 @@ pub fn read(run: &[i32], places: usize, k: usize) -> Cells
     }
 }
 
-// The numbers at a place, written over.
+/// The numbers at a place, written over.
+#[tactic(auto, unfolding(crate::specs::Columns::put))]
 pub fn write(run: &mut [i32], places: usize, k: usize, cells: Cells)
     requires { Within (length run.old) places k }
     ensures { run.new ≡ put run.old places k cells }
 {
-    let id = cells.id;
-    let first = cells.first;
-    let last = cells.last;
-    let tracked = cells.tracked;
-    let detected = cells.detected;
-    let fragmentations = cells.fragmentations;
-    let matched = cells.matched;
-    let known = cells.known;
-    let partner = cells.partner;
+    let Cells {
+        id,
+        first,
+        last,
+        tracked,
+        detected,
+        fragmentations,
+        matched,
+        known,
+        partner,
+    } = cells;
     run[k] = id;
     let b = k + places;
     run[b] = first;

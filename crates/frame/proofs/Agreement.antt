@@ -14,18 +14,16 @@ use lib.Seq.{take-set-lt, take-suc-set, map-set_same, get_or-take}
 use Rattle.counts.specs.Counts.{one_if}
 use Rattle.lifecycle.specs.Lifecycle.{counts_fit}
 use Rattle.slots.specs.declared.Slot.{Slot}
-use Rattle.slots.specs.declared.BookedSlot.{BookedSlot}
 use Rattle.ids.specs.declared.Lookup.{Lookup}
 use Rattle.ids.specs.declared.Lookup.TheVariants.{At, Absent}
 use Rattle.ids.specs.Ids.{seek_of}
-use Rattle.slots.specs.Slots.{new_slot, no_slot, id_of, ids_of, booked_slot}
+use Rattle.slots.specs.Slots.{BookedSlot, new_slot, no_slot, id_of, ids_of, booked_slot}
 use Rattle.ids.proofs.Lookups.{found_below}
 use Rattle.slots.proofs.Tables.{ids_long}
 use Rattle.slots.proofs.Kept.{booked_id}
 use Rattle.rows.specs.declared.ExtendedMOTAccumulator.{ExtendedMOTAccumulator}
 use Rattle.rows.specs.declared.Row.{Row}
-use Rattle.rows.specs.declared.Spot.{Spot}
-use Rattle.rows.specs.Rows.{spot_of, step_of, with_slot}
+use Rattle.rows.specs.Rows.{Spot, spot_of, step_of, with_slot}
 use Rattle.rows.proofs.Booking.{put_back}
 use Rattle.frame.specs.Unbounded.{Tally, next_slot, switch_of, tally_at, tally_row, all_fit}
 use Rattle.frame.proofs.Fitting.{next_id, booked_fits, booked_past, new_fits, new_next_fits, fit_at, fit_set, past_set, past_stays, fit_more, past_more}

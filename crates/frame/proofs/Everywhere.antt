@@ -22,8 +22,7 @@ use Rattle.ids.proofs.Lookups.{found_below}
 use Rattle.slots.proofs.Tables.{ids_long}
 use Rattle.rows.specs.declared.ExtendedMOTAccumulator.{ExtendedMOTAccumulator}
 use Rattle.rows.specs.declared.Row.{Row}
-use Rattle.rows.specs.declared.Spot.{Spot}
-use Rattle.rows.specs.Rows.{spot_of, step_of, row_spot, book_row, trial_after}
+use Rattle.rows.specs.Rows.{Spot, spot_of, step_of, row_spot, book_row, trial_after}
 use Rattle.frame.specs.Frame.{next_frame, shares_of, room_for_all, raised_by, trial_no, closed, frame_of}
 use Rattle.frame.proofs.Finals.{trial_good}
 

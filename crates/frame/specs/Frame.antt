@@ -1,4 +1,5 @@
 -- Document 01, "Lifecycles and events" and refusals 5 and 7: a frame whose pairing is handed in.
+use Rattle.std.specs.Prelude.{Result, Ok, Err}
 use Rattle.std.specs.Prelude.{Bool, ◌&&◌, cond, List, ℕ, ◌+◌, ◌≤◌, eqb, ℤ, pos, ◌+ℤ◌, Float}
 use Rattle.std.specs.Int.Signed.{non_neg}
 use Rattle.floats.specs.Float.{zero64}
@@ -7,8 +8,9 @@ use Rattle.slots.specs.declared.Slot.{Slot}
 use Rattle.slots.specs.Slots.{sound_of}
 use Rattle.rows.specs.declared.ExtendedMOTAccumulator.{ExtendedMOTAccumulator}
 use Rattle.rows.specs.declared.Row.{Row}
-use Rattle.rows.specs.declared.Trial.{Trial}
-use Rattle.rows.specs.Rows.{trial_after}
+use Rattle.refusals.specs.declared.Refusal.{Refusal}
+use Rattle.refusals.specs.Refusals.{number_of}
+use Rattle.rows.specs.Rows.{Trial, trial_after}
 use Rattle.totals.specs.declared.Shares.{Shares}
 unfoldable pub use Rattle.totals.specs.Totals.{totals_sound, next_frame, room_for_all}
 pub use Rattle.totals.specs.Totals.{totals_of, state_with, new_totals, Few, shares_of, raised_totals}
@@ -38,3 +40,8 @@ framed s pairs lefts extra objects distance t = closed s t (shares_of pairs left
 unfoldable pub frame_of : ExtendedMOTAccumulator → (ℕ → Row) → ℕ → ℕ → ℕ → ℕ → Float → Booked
 frame_of s rows pairs lefts extra objects distance =
     framed s pairs lefts extra objects distance (trial_after rows (next_frame s.frame_id) s (pairs + lefts))
+
+-- the same of what the code has in between: why the frame is refused, or the state after it
+abbrev pub frame_answer : ExtendedMOTAccumulator → Result ExtendedMOTAccumulator Refusal → Booked
+frame_answer s (Ok next) = record { number = 0; state = next }
+frame_answer s (Err r) = record { number = number_of r; state = s }

@@ -4,20 +4,23 @@
 
 ghost use Rattle.std.specs.Prelude.{◌≡◌, ◌≤◌, length};
 ghost use Rattle.rows.specs.Rows.{Lies, row_at};
-ghost use Rattle.frame.specs.Frame.{sound_state, totals_of, state_with, Few, closed, frame_of};
+ghost use Rattle.frame.specs.Frame.{sound_state, totals_of, state_with, frame_of, frame_answer};
 
-use rows::{ExtendedMOTAccumulator, Trial};
+use refusals::Refusal;
+use rows::ExtendedMOTAccumulator;
 use totals::{Shares, Totals};
 
-// The number of a frame, and the state: beside a refusal the one that came.
+/// The number of a frame, and the state: beside a refusal the one that came.
+// Kept: a refusal is a number beside the state at each public call, for C callers too.
 #[derive(Clone, Copy)]
 pub struct Booked {
     pub number: u32,
     pub state: ExtendedMOTAccumulator,
 }
 
-fn totals_of(s: ExtendedMOTAccumulator) -> Totals
-    ensures { result ≡ totals_of s }
+/// What a state holds beside its table.
+fn totals_of(s: &ExtendedMOTAccumulator) -> Totals
+    ensures { result ≡ totals_of s.now }
 {
     Totals {
         used: s.used,
@@ -31,7 +34,7 @@ fn totals_of(s: ExtendedMOTAccumulator) -> Totals
     }
 }
 
-// A state's table with these totals beside it.
+/// A state's table with these totals beside it.
 fn with_totals(mut s: ExtendedMOTAccumulator, t: Totals) -> ExtendedMOTAccumulator
     ensures { result ≡ state_with s.slots t }
 {
@@ -46,39 +49,45 @@ fn with_totals(mut s: ExtendedMOTAccumulator, t: Totals) -> ExtendedMOTAccumulat
     s
 }
 
-// 5, and then 7, by what came of the trial; then the counters raised on its table.
-fn close_frame(s: ExtendedMOTAccumulator, t: Trial, by: Shares, distance: f64) -> Booked
-    requires { Few by }
-    ensures { result ≡ closed s t by distance }
+/// The state after a frame whose pairing is handed in: its rows on trial first, then the counters raised on the trial's table.
+fn try_frame(
+    s: ExtendedMOTAccumulator,
+    gt_ids: &[i32],
+    pred_ids: &[i32],
+    pair_rows: &[usize; 64],
+    pair_cols: &[usize; 64],
+    left_rows: &[usize; 64],
+    pairs: usize,
+    lefts: usize,
+    extra: usize,
+    distance: f64,
+) -> Result<ExtendedMOTAccumulator, Refusal>
+    requires used_bound { s.used ≤ 256 }
+    requires lies { Lies (length gt_ids.now) (length pred_ids.now) pair_rows.now pair_cols.now left_rows.now pairs lefts }
+    requires gt_ids_len_bound { (length gt_ids.now ≤ 64) × (extra ≤ 64) }
+    ensures { frame_answer s result ≡ frame_of s (row_at gt_ids.now pred_ids.now pair_rows.now pair_cols.now left_rows.now pairs) pairs lefts extra (length gt_ids.now) distance }
 {
-    if t.full {
-        return Booked {
-            number: 5,
-            state: s,
-        };
-    }
-    if t.over {
-        return Booked {
-            number: 7,
-            state: s,
-        };
-    }
-    let u = t.state;
-    let before = totals_of(u);
+    let frame = totals::next_frame(s.frame_id);
+    let trial = trial::book_rows(
+        s, gt_ids, pred_ids, pair_rows, pair_cols, left_rows, pairs, lefts, frame,
+    )?;
+    let by = Shares {
+        matches: pairs,
+        misses: lefts,
+        false_positives: extra,
+        switches: trial.switches,
+        objects: gt_ids.len(),
+    };
+    let booked = trial.state;
+    let before = totals_of(&booked);
     if !totals::room_for_all(before, by) {
-        return Booked {
-            number: 7,
-            state: s,
-        };
+        return Err(Refusal::Overflow);
     }
-    let booked = with_totals(u, totals::raised_by(before, by, distance));
-    Booked {
-        number: 0,
-        state: booked,
-    }
+    let raised = totals::raised_by(before, by, distance);
+    Ok(with_totals(booked, raised))
 }
 
-// A frame whose pairing is handed in: on trial first, and then closed.
+/// A frame whose pairing is handed in, booked whole or refused.
 pub fn book_frame(
     s: ExtendedMOTAccumulator,
     gt_ids: &[i32],
@@ -96,28 +105,22 @@ pub fn book_frame(
     requires gt_ids_len_bound { (length gt_ids.now ≤ 64) × (extra ≤ 64) }
     ensures { result ≡ frame_of s (row_at gt_ids.now pred_ids.now pair_rows.now pair_cols.now left_rows.now pairs) pairs lefts extra (length gt_ids.now) distance }
 {
-    let frame = totals::next_frame(s.frame_id);
-    let t = trial::book_rows(
-        s, gt_ids, pred_ids, pair_rows, pair_cols, left_rows, pairs, lefts, frame,
+    let outcome = try_frame(
+        s, gt_ids, pred_ids, pair_rows, pair_cols, left_rows, pairs, lefts, extra, distance,
     );
-    let by = Shares {
-        matches: pairs,
-        misses: lefts,
-        false_positives: extra,
-        switches: t.switches,
-        objects: gt_ids.len(),
-    };
-    close_frame(s, t, by, distance)
+    match outcome {
+        Ok(state) => Booked { number: 0, state },
+        Err(refusal) => Booked {
+            number: refusal.number(),
+            state: s,
+        },
+    }
 }
 
-// Whether a state that is handed in is one that refusal 1 lets by.
+/// Whether a state that is handed in is one that refusal 1 lets by.
+#[tactic(auto, unfolding(crate::specs::Frame::sound_state, totals::specs::Totals::totals_sound))]
 pub fn sound(s: ExtendedMOTAccumulator) -> bool
     ensures { result ≡ sound_state s }
 {
-    if !totals::totals_sound(totals_of(s)) {
-        return false;
-    }
-    let table = s.slots;
-    let used = s.used;
-    slot_tables::sound(table, used)
+    totals::totals_sound(totals_of(&s)) && slot_tables::sound(&s.slots, s.used)
 }

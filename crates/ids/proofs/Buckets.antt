@@ -11,7 +11,7 @@ use mir.Syntax.{w32, w64}
 use mir.Val.{SFits, Fits}
 use Rattle.counts.specs.Counts.{same_id}
 use Rattle.ids.specs.Chains.{bucket_of}
-use Rattle.ids.proofs.NoneTwice.{not_same}
+use Rattle.ids.proofs.Lookups.{not_same}
 
 pub natural : (z : ℤ) → non_neg z ≡ true → nat_abs z ≡ mag z
 natural (pos n) e = refl

@@ -13,8 +13,8 @@ use Rattle.counts.specs.Counts.{same_id}
 use Rattle.counts.proofs.Ids.{same_refl}
 use Rattle.ids.specs.Ids.{seek_of, is_absent, distinct_of}
 use Rattle.ids.specs.Chains.{id_at, bucket_of, Last, Chained}
-use Rattle.ids.proofs.Lookups.{absent_reads, absent_is, absent_yes}
-use Rattle.ids.proofs.NoneTwice.{not_same, distinct_reads, distinct_is}
+use Rattle.ids.proofs.Lookups.{not_same, absent_reads, absent_is, absent_yes}
+use Rattle.ids.proofs.NoneTwice.{distinct_reads, distinct_is}
 
 -- the first i ids are on their chains, and none of them stands twice
 pub record Linked (ids : List ℤ) (heads links : List ℕ) (i : ℕ) : Type 0 where

@@ -1,28 +1,35 @@
 -- What a lookup finds, step by step, and what it says. Assumes nothing.
-use mathlib.Core.Path.{◌≡◌, refl, sym}
+use mathlib.Core.Path.{◌≡◌, refl, sym, ap, ◌∙◌}
 use mathlib.Core.Bool.{Bool, true, false, cond, true≢false}
 use mathlib.Core.List.{List, [], ◌∷◌}
 use Prim.Native.Nat.{ℕ, zero, suc, ◌<◌, ◌+◌}
 use native.Mathlib.Omega.{arith}
 use native.Mathlib.Nat.{not-suc-le-zero, le_of_suc-le-suc}
-use native.Mathlib.Numerals.{add-one}
 use lib.IntN.{ℤ, pos}
-use lib.ListN.{length, drop, get_or}
-use lib.Seq.{drop-cons}
+use lib.ListN.{length, get_or}
 use Rattle.counts.specs.Counts.{same_id}
+use Rattle.counts.proofs.Ids.{same_eq, same_refl}
 use Rattle.ids.specs.declared.Lookup.{Lookup}
 use Rattle.ids.specs.declared.Lookup.TheVariants.{At, Absent}
 use Rattle.ids.specs.Ids.{seek_from, is_absent}
 
--- ---- one turn of the loop
-module _ (l : List ℤ) (id : ℤ) (i : ℕ) (h : i < length l) where
-  pub here : same_id (get_or l i (pos 0)) id ≡ true → seek_from i (drop i l) id ≡ At i
-  unfolding seek_from
-  here e = rw (drop-cons l i (pos 0), e)
+-- ---- ids that differ don't pass for the same
+pub not_same : (a b : ℤ) → (a ≡ b → ⊥) → (t : Bool) → same_id a b ≡ t → same_id a b ≡ false
+not_same a b n true e = absurd (n (same_eq a b e))
+not_same a b n false e = e
 
-  pub next : same_id (get_or l i (pos 0)) id ≡ false → seek_from i (drop i l) id ≡ seek_from (i + 1) (drop (i + 1) l) id
-  unfolding seek_from
-  next e = rw (add-one i, drop-cons l i (pos 0), e)
+-- ---- the first place that holds the id is the one that is found
+first_from : (i : ℕ) (l : List ℤ) (id : ℤ) (k : ℕ) → k < length l → get_or l k (pos 0) ≡ id → ((j : ℕ) → j < k → get_or l j (pos 0) ≡ id → ⊥)
+    → seek_from i l id ≡ At (i + k)
+unfolding seek_from
+first_from i [] id k h e f = absurd (not-suc-le-zero h)
+first_from i (x ∷ xs) id zero h e f = rw (e, same_refl id) (ap At (omega arith))
+first_from i (x ∷ xs) id (suc k) h e f =
+    rw (not_same x id (f 0 (omega arith)) (same_id x id) refl)
+    (first_from (suc i) xs id k (omega arith) e (λ (j : ℕ) (g : j < k). f (suc j) (omega arith)) ∙ ap At (omega arith))
+
+pub first_at : (l : List ℤ) (id : ℤ) (k : ℕ) → k < length l → get_or l k (pos 0) ≡ id → ((j : ℕ) → j < k → get_or l j (pos 0) ≡ id → ⊥) → seek_from 0 l id ≡ At k
+first_at l id k h e f = first_from 0 l id k h e f ∙ ap At (omega arith)
 
 -- ---- a place that is found is one of the list's
 found_from : (b : Bool) (i k n : ℕ) (r : Lookup) → (r ≡ At k → k < suc i + n) → cond b (At i) r ≡ At k → k < i + suc n
@@ -50,6 +57,9 @@ pub absent_is : (i : ℕ) (l : List ℤ) (id : ℤ) → ((j : ℕ) → j < lengt
 unfolding seek_from
 absent_is i [] id f = refl
 absent_is i (x ∷ xs) id f = rw (f 0 (omega arith)) (absent_is (suc i) xs id (λ (j : ℕ) (h : j < length xs). f (suc j) (omega arith)))
+
+pub none_at : (l : List ℤ) (id : ℤ) → ((j : ℕ) → j < length l → get_or l j (pos 0) ≡ id → ⊥) → seek_from 0 l id ≡ Absent
+none_at l id f = absent_is 0 l id (λ (j : ℕ) (h : j < length l). not_same (get_or l j (pos 0)) id (f j h) (same_id (get_or l j (pos 0)) id) refl)
 
 pub absent_yes : (r : Lookup) → is_absent r ≡ true → r ≡ Absent
 absent_yes (At k) e = absurd (true≢false (sym e))

@@ -10,14 +10,10 @@ use lib.IntN.{ℤ, pos}
 use lib.ListN.{length, drop, get_or}
 use lib.Seq.{drop-cons}
 use Rattle.counts.specs.Counts.{same_id}
-use Rattle.counts.proofs.Ids.{same_eq, same_refl}
+use Rattle.counts.proofs.Ids.{same_refl}
 use Rattle.counts.proofs.Tests.{both}
 use Rattle.ids.specs.Ids.{seek_of, is_absent, distinct_of}
-use Rattle.ids.proofs.Lookups.{absent_reads, absent_is, absent_yes}
-
-pub not_same : (a b : ℤ) → (a ≡ b → ⊥) → (t : Bool) → same_id a b ≡ t → same_id a b ≡ false
-not_same a b h true e = absurd (h (same_eq a b e))
-not_same a b h false e = e
+use Rattle.ids.proofs.Lookups.{not_same, absent_reads, absent_is, absent_yes}
 
 pub distinct_reads : (l : List ℤ) → distinct_of l ≡ true → (i j : ℕ) → i < j → j < length l → get_or l i (pos 0) ≡ get_or l j (pos 0) → ⊥
 unfolding distinct_of

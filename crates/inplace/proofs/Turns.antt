@@ -18,10 +18,7 @@ use Rattle.columns.specs.Columns.{Within, cells_at, put, slots_of}
 use Rattle.columns.proofs.Laws.{put_long, at_same, at_other, put_back, slots_long, put_slot}
 use Rattle.rows.specs.declared.ExtendedMOTAccumulator.{ExtendedMOTAccumulator}
 use Rattle.rows.specs.declared.Row.{Row}
-use Rattle.rows.specs.declared.Spot.{Spot}
-use Rattle.rows.specs.declared.Step.{Step}
-use Rattle.rows.specs.declared.Trial.{Trial}
-use Rattle.rows.specs.Rows.{row_spot, row_step, with_slot, trial_of, trial_after}
+use Rattle.rows.specs.Rows.{Spot, Step, Trial, row_spot, row_step, with_slot, trial_of, trial_after}
 use Rattle.rows.proofs.Booking.{row_in, one_more}
 use Rattle.frame.proofs.Finals.{trial_good}
 use Rattle.totals.specs.declared.Totals.{Totals}

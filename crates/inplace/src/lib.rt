@@ -4,28 +4,30 @@
 
 ghost use Rattle.std.specs.Prelude.{◌≡◌, ℕ, ◌+◌, ◌<◌, ◌≤◌, length, get_or};
 ghost use Rattle.rows.specs.Rows.{Lies, row_at};
-ghost use Rattle.frame.specs.Frame.{Few};
-ghost use Rattle.inplace.specs.InPlace.{Tried, undone, number_of, Framed};
+ghost use Rattle.inplace.specs.InPlace.{Rows, undone, Framed};
 
+use refusals::Refusal;
+use slot_cells::Cells;
+use slots::Slot;
 use totals::{Shares, Totals};
 
-// What came of a trial, beside the table: full where a new id found no place, over where a count would have passed.
+/// What came of a trial, beside the table.
 #[derive(Clone, Copy)]
 pub struct Tally {
     pub totals: Totals,
-    pub full: bool,
-    pub over: bool,
     pub switches: usize,
 }
 
-// The number of a frame, and the totals: beside a refusal those that came.
+/// The number of a frame, and the totals: beside a refusal those that came.
+// Kept: a refusal is a number beside the totals at each public call, for C callers too.
 #[derive(Clone, Copy)]
 pub struct Closed {
     pub number: u32,
     pub totals: Totals,
 }
 
-// The rows of a pairing, booked in order in the table. What stood at the place of each goes into the log.
+/// The rows of a pairing, booked in order in the table. What stood at the place of each goes into the log, from which the table is put back
+/// where the rows are refused: where a new id finds no place, and else where a count would pass.
 fn book_rows(
     run: &mut [i32],
     totals: Totals,
@@ -39,75 +41,54 @@ fn book_rows(
     frame: i32,
     places: &mut [usize],
     log: &mut [i32],
-) -> Tally
+) -> Result<Tally, Refusal>
     requires used_bound { (totals.used ≤ 256) × (length run.old ≡ 2304) × (length places.old ≡ 64) × (length log.old ≡ 576) }
     requires lies { Lies (length gt_ids.now) (length pred_ids.now) pair_rows.now pair_cols.now left_rows.now pairs lefts }
-    ensures { Tried (row_at gt_ids.now pred_ids.now pair_rows.now pair_cols.now left_rows.now pairs) frame run.old totals (pairs + lefts) run.new places.new log.new result }
+    ensures { Rows (row_at gt_ids.now pred_ids.now pair_rows.now pair_cols.now left_rows.now pairs) frame run.old totals (pairs + lefts) run.new places.new log.new result }
 {
     let mut t = totals;
-    let mut full = false;
     let mut over = false;
     let mut switches: usize = 0;
-    let mut k: usize = 0;
-    let n = pairs + lefts;
-    while k < n {
+    for k in 0..pairs + lefts {
         let row = rows::row_at(
             gt_ids, pred_ids, pair_rows, pair_cols, left_rows, pairs, lefts, k,
         );
-        let used = t.used;
-        let spot = rows::spot_of(ids::seek(&run[..used], row.id), used);
-        let at = spot.at;
-        let old = columns::read(&run[..], 256, at);
+        let found = ids::seek(&run[..t.used], row.id);
+        let Some(place) = rows::place_of(found, t.used) else {
+            undo(run, places, log, k);
+            return Err(Refusal::FullTable);
+        };
+        let at = place.at;
+        let old = columns::read(run, 256, at);
         places[k] = at;
         columns::write(log, 64, k, old);
-        let p = rows::book_at(spot, slot_cells::slot_of(old), used, row, frame);
-        columns::write(run, 256, at, slot_cells::cells_of(p.slot));
-        t.used = p.used;
-        full = counts::either(full, p.full);
-        over = counts::either(over, p.over);
-        switches = switches + counts::one_if(p.switched);
-        k = k + 1;
+        let step = rows::book_at(place, Slot::from(old), t.used, row, frame);
+        columns::write(run, 256, at, Cells::from(step.slot));
+        t.used = step.used;
+        over |= step.over;
+        switches += usize::from(step.switched);
     }
-    Tally {
+    if over {
+        undo(run, places, log, pairs + lefts);
+        return Err(Refusal::Overflow);
+    }
+    Ok(Tally {
         totals: t,
-        full: full,
-        over: over,
-        switches: switches,
-    }
+        switches,
+    })
 }
 
-// The last n rows of the log put back, the latest first.
+/// The last n rows of the log put back, the latest first.
 fn undo(run: &mut [i32], places: &[usize], log: &[i32], n: usize)
     requires { (length run.old ≡ 2304) × (length places.now ≡ 64) × (length log.now ≡ 576) × (n ≤ 64) × ((j : ℕ) → j < n → get_or places.now j 0 < 256) }
     ensures { run.new ≡ undone run.old places.now log.now n }
 {
-    let mut k = n;
-    while k > 0 {
-        k = k - 1;
-        let at = places[k];
-        columns::write(run, 256, at, columns::read(log, 64, k));
+    for k in (0..n).rev() {
+        columns::write(run, 256, places[k], columns::read(log, 64, k));
     }
 }
 
-// 5, and then 7, by what came of the trial.
-fn number_of(t: Tally, by: Shares) -> u32
-    requires { Few by }
-    ensures { result ≡ number_of t by }
-{
-    if t.full {
-        return 5;
-    }
-    if t.over {
-        return 7;
-    }
-    let totals = t.totals;
-    if !totals::room_for_all(totals, by) {
-        return 7;
-    }
-    0
-}
-
-// A frame whose pairing is handed in: its rows booked in the table, and put back where the frame is refused.
+/// A frame whose pairing is handed in: its rows booked in the table, and put back where the frame is refused.
 pub fn book_frame(
     run: &mut [i32],
     totals: Totals,
@@ -129,7 +110,7 @@ pub fn book_frame(
     let frame = totals::next_frame(totals.frame_id);
     let mut places = [0usize; 64];
     let mut log = [0i32; 576];
-    let t = book_rows(
+    let booked = book_rows(
         run,
         totals,
         gt_ids,
@@ -143,25 +124,31 @@ pub fn book_frame(
         &mut places,
         &mut log,
     );
+    let tally = match booked {
+        Ok(tally) => tally,
+        Err(refusal) => {
+            return Closed {
+                number: refusal.number(),
+                totals,
+            };
+        }
+    };
     let by = Shares {
         matches: pairs,
         misses: lefts,
         false_positives: extra,
-        switches: t.switches,
+        switches: tally.switches,
         objects: gt_ids.len(),
     };
-    let number = number_of(t, by);
-    if number != 0 {
+    if !totals::room_for_all(tally.totals, by) {
         undo(run, &places, &log, pairs + lefts);
         return Closed {
-            number: number,
-            totals: totals,
+            number: Refusal::Overflow.number(),
+            totals,
         };
     }
-    let booked = t.totals;
-    let raised = totals::raised_by(booked, by, distance);
     Closed {
         number: 0,
-        totals: raised,
+        totals: totals::raised_by(tally.totals, by, distance),
     }
 }

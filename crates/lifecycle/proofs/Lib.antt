@@ -1,3 +1,2 @@
-pub mod Rooms
 pub mod Final
 pub mod Kept

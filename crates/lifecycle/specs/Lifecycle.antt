@@ -1,11 +1,15 @@
 -- Document 01, "Lifecycles and events": a definition for each sentence on a lifecycle, and its refusals 1 and 7. What a
 -- fragmentation, a coverage and a class is says `lifecycle_parts`, passed on.
+use Rattle.std.specs.Prelude.{Result, Ok, Err}
 use Rattle.std.specs.Prelude.{Bool, true, false, ◌&&◌, cond, ℕ, ℤ, pos, ◌+ℤ◌, Float}
 use Rattle.std.specs.Int.Signed.{non_neg}
 use Rattle.floats.specs.Float.{zero64}
 use Rattle.counts.specs.Counts.{fits, room_for, one_if}
 pub use Rattle.lifecycle_parts.specs.Parts.{mostly, hardly, Totals, class_no, class_totals}
 unfoldable pub use Rattle.lifecycle_parts.specs.Parts.{fragments, share_of, class_of}
+use Rattle.refusals.specs.declared.Refusal.{Refusal}
+use Rattle.refusals.specs.declared.Refusal.TheVariants.{Unsound}
+use Rattle.refusals.specs.Refusals.{number_of}
 use Rattle.lifecycle.specs.declared.TrackLifecycle.{TrackLifecycle}
 use Rattle.lifecycle.specs.declared.Updated.{Updated}
 use Rattle.lifecycle.specs.declared.Coverage.{Coverage}
@@ -87,3 +91,11 @@ shared_of t = share_of t.tracked_frames t.detected_frames
 
 unfoldable pub coverage_of : TrackLifecycle → Coverage
 coverage_of t = cond (sound_counts t) (record { number = 0; value = shared_of t }) (record { number = 1; value = zero64 })
+
+-- ---- what the code has in between: why an update is refused, or what it leaves
+abbrev pub check_of : TrackLifecycle → Result (Unit {0}) Refusal
+check_of t = cond (sound_counts t) (Ok tt) (Err Unsound)
+
+abbrev pub update_answer : TrackLifecycle → Result TrackLifecycle Refusal → Updated
+update_answer t (Ok next) = record { number = 0; lifecycle = next }
+update_answer t (Err r) = record { number = number_of r; lifecycle = t }

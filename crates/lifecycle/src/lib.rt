@@ -4,10 +4,12 @@
 
 ghost use Rattle.std.specs.Prelude.{◌≡◌, true};
 ghost use Rattle.lifecycle.specs.Lifecycle.{fresh, sound_counts, room_to_match, room_to_miss, matched_after, missed_after};
-ghost use Rattle.lifecycle.specs.Lifecycle.{update_matched_of, update_missed_of, shared_of, coverage_of};
+ghost use Rattle.lifecycle.specs.Lifecycle.{update_matched_of, update_missed_of, shared_of, coverage_of, update_answer, check_of};
 
 use lifecycle_parts::{fragments, share_of};
+use refusals::Refusal;
 
+/// The record of a truth object over the frames so far.
 #[repr(C)]
 #[derive(Clone, Copy)]
 pub struct TrackLifecycle {
@@ -20,13 +22,16 @@ pub struct TrackLifecycle {
     pub was_matched: bool,
 }
 
-// What an update answers: its number, and the next lifecycle; beside a refusal the one that came.
+/// What an update answers: its number, and the next lifecycle; beside a refusal the one that came.
+// Kept: a refusal is a number beside the state at each public call, for C callers too.
 #[derive(Clone, Copy)]
 pub struct Updated {
     pub number: u32,
     pub lifecycle: TrackLifecycle,
 }
 
+/// What `coverage` answers: its number, and the share; beside a refusal 0.0.
+// Kept: a refusal is a number beside the value at each public call, for C callers too.
 #[derive(Clone, Copy)]
 pub struct Coverage {
     pub number: u32,
@@ -34,12 +39,13 @@ pub struct Coverage {
 }
 
 impl TrackLifecycle {
+    /// A new object: it was there in no frame so far.
     pub fn new(gt_id: i32, first_frame: i32) -> Self
         ensures { result ≡ fresh gt_id first_frame }
     {
         Self {
-            gt_id: gt_id,
-            first_frame: first_frame,
+            gt_id,
+            first_frame,
             last_frame: first_frame,
             tracked_frames: 0,
             detected_frames: 0,
@@ -48,93 +54,100 @@ impl TrackLifecycle {
         }
     }
 
-    // The object is matched in a frame.
+    /// The object is matched in a frame.
     pub fn update_matched(self, frame: i32) -> Updated
         ensures { result ≡ update_matched_of self frame }
     {
-        if !self.sound() {
-            return Updated {
-                number: 1,
-                lifecycle: self,
-            };
-        }
-        if !self.room_to_match() {
-            return Updated {
-                number: 7,
-                lifecycle: self,
-            };
-        }
-        let matched = self.matched(frame);
-        Updated {
-            number: 0,
-            lifecycle: matched,
-        }
+        self.answer(self.try_match(frame))
     }
 
-    // The object is missed in a frame.
-    #[tactic(auto, unfolding(crate::specs::Lifecycle::update_missed_of))]
+    /// The object is missed in a frame.
     pub fn update_missed(self, frame: i32) -> Updated
         ensures { result ≡ update_missed_of self frame }
     {
-        if !self.sound() {
-            return Updated {
-                number: 1,
-                lifecycle: self,
-            };
-        }
-        if !self.room_to_miss() {
-            return Updated {
-                number: 7,
-                lifecycle: self,
-            };
-        }
-        let missed = self.missed(frame);
-        Updated {
-            number: 0,
-            lifecycle: missed,
-        }
+        self.answer(self.try_miss(frame))
     }
 
-    // The share of the object's frames in which it was tracked.
+    /// The share of the object's frames in which it was tracked.
     #[tactic(auto, unfolding(crate::specs::Lifecycle::coverage_of))]
     pub fn coverage(self) -> Coverage
         ensures { result ≡ coverage_of self }
     {
-        if !self.sound() {
-            return Coverage {
-                number: 1,
+        match self.check() {
+            Ok(()) => Coverage {
+                number: 0,
+                value: self.share(),
+            },
+            Err(refusal) => Coverage {
+                number: refusal.number(),
                 value: 0.0,
-            };
-        }
-        Coverage {
-            number: 0,
-            value: self.share(),
+            },
         }
     }
 
-    // Whether none of the three counts is negative.
+    /// What an update gives for its outcome.
+    fn answer(self, outcome: Result<Self, Refusal>) -> Updated
+        ensures { result ≡ update_answer self outcome }
+    {
+        match outcome {
+            Ok(lifecycle) => Updated {
+                number: 0,
+                lifecycle,
+            },
+            Err(refusal) => Updated {
+                number: refusal.number(),
+                lifecycle: self,
+            },
+        }
+    }
+
+    /// Refuses a negative count.
+    fn check(self) -> Result<(), Refusal>
+        ensures { result ≡ check_of self }
+    {
+        if self.sound() {
+            Ok(())
+        } else {
+            Err(Refusal::Unsound)
+        }
+    }
+
+    #[tactic(auto, unfolding(crate::specs::Lifecycle::update_matched_of))]
+    fn try_match(self, frame: i32) -> Result<Self, Refusal>
+        ensures { update_answer self result ≡ update_matched_of self frame }
+    {
+        self.check()?;
+        if !self.room_to_match() {
+            return Err(Refusal::Overflow);
+        }
+        Ok(self.matched(frame))
+    }
+
+    #[tactic(auto, unfolding(crate::specs::Lifecycle::update_missed_of))]
+    fn try_miss(self, frame: i32) -> Result<Self, Refusal>
+        ensures { update_answer self result ≡ update_missed_of self frame }
+    {
+        self.check()?;
+        if !self.room_to_miss() {
+            return Err(Refusal::Overflow);
+        }
+        Ok(self.missed(frame))
+    }
+
+    /// Whether none of the three counts is negative.
     #[tactic(auto, unfolding(crate::specs::Lifecycle::sound_counts))]
     pub fn sound(self) -> bool
         ensures { result ≡ sound_counts self }
     {
-        if !counts::not_negative(self.tracked_frames) {
-            return false;
-        }
-        if !counts::not_negative(self.detected_frames) {
-            return false;
-        }
-        counts::not_negative(self.fragmentations)
+        self.tracked_frames >= 0 && self.detected_frames >= 0 && self.fragmentations >= 0
     }
 
-    // Whether no count would pass with a match.
+    /// Whether no count would pass with a match.
     #[tactic(auto, unfolding(crate::specs::Lifecycle::room_to_match))]
     pub fn room_to_match(self) -> bool
         ensures { result ≡ room_to_match self }
     {
-        if !counts::room_for(self.tracked_frames, 1) {
-            return false;
-        }
-        if !counts::room_for(self.detected_frames, 1) {
+        if !counts::room_for(self.tracked_frames, 1) || !counts::room_for(self.detected_frames, 1) {
             return false;
         }
         let detected = counts::add(self.detected_frames, 1);
@@ -142,7 +155,7 @@ impl TrackLifecycle {
         counts::room_for(self.fragmentations, more)
     }
 
-    // Whether no count would pass with a miss.
+    /// Whether no count would pass with a miss.
     #[tactic(auto, unfolding(crate::specs::Lifecycle::room_to_miss))]
     pub fn room_to_miss(self) -> bool
         ensures { result ≡ room_to_miss self }
@@ -150,34 +163,39 @@ impl TrackLifecycle {
         counts::room_for(self.detected_frames, 1)
     }
 
-    // The lifecycle after a match that there is room for.
-    pub fn matched(mut self, frame: i32) -> Self
+    /// The lifecycle after a match that there is room for.
+    #[tactic(auto, unfolding(crate::specs::Lifecycle::matched_after, crate::specs::Lifecycle::room_to_match))]
+    pub fn matched(self, frame: i32) -> Self
         requires { room_to_match self ≡ true }
         ensures { result ≡ matched_after self frame }
     {
-        self.last_frame = frame;
-        self.tracked_frames = counts::add(self.tracked_frames, 1);
-        self.detected_frames = counts::add(self.detected_frames, 1);
-        let more = counts::one_if(fragments(self.detected_frames, self.was_matched));
-        self.fragmentations = counts::add(self.fragmentations, more);
-        self.was_matched = true;
-        self
+        let detected = counts::add(self.detected_frames, 1);
+        let more = counts::one_if(fragments(detected, self.was_matched));
+        Self {
+            last_frame: frame,
+            tracked_frames: counts::add(self.tracked_frames, 1),
+            detected_frames: detected,
+            fragmentations: counts::add(self.fragmentations, more),
+            was_matched: true,
+            ..self
+        }
     }
 
-    // The lifecycle after a miss that there is room for.
+    /// The lifecycle after a miss that there is room for.
     #[tactic(auto, unfolding(crate::specs::Lifecycle::missed_after, crate::specs::Lifecycle::room_to_miss))]
-    pub fn missed(mut self, frame: i32) -> Self
+    pub fn missed(self, frame: i32) -> Self
         requires { room_to_miss self ≡ true }
         ensures { result ≡ missed_after self frame }
     {
-        self.last_frame = frame;
-        let detected = counts::add(self.detected_frames, 1);
-        self.detected_frames = detected;
-        self.was_matched = false;
-        self
+        Self {
+            last_frame: frame,
+            detected_frames: counts::add(self.detected_frames, 1),
+            was_matched: false,
+            ..self
+        }
     }
 
-    // Coverage without the test.
+    /// Coverage without the test.
     pub fn share(self) -> f64
         ensures { result ≡ shared_of self }
     {

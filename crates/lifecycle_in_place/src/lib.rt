@@ -6,24 +6,22 @@ ghost use Rattle.std.specs.Prelude.{◌≡◌};
 ghost use Rattle.lifecycle.specs.Lifecycle.{update_matched_of, update_missed_of};
 ghost use Rattle.lifecycle_in_place.specs.InPlace.{answer};
 
-use lifecycle::TrackLifecycle;
+use lifecycle::{TrackLifecycle, Updated};
 
-// The object is matched in a frame. The answer is the number; beside a refusal the record stays.
+/// The object is matched in a frame. The answer is the number; beside a refusal the record stays.
 pub fn mot_update_matched(it: &mut TrackLifecycle, frame: i32) -> u32
     ensures { answer result it.new ≡ update_matched_of it.old frame }
 {
-    let old = *it;
-    let next = old.update_matched(frame);
-    *it = next.lifecycle;
-    next.number
+    let Updated { number, lifecycle } = it.update_matched(frame);
+    *it = lifecycle;
+    number
 }
 
-// The object is missed in a frame. The answer is the number; beside a refusal the record stays.
+/// The object is missed in a frame. The answer is the number; beside a refusal the record stays.
 pub fn mot_update_missed(it: &mut TrackLifecycle, frame: i32) -> u32
     ensures { answer result it.new ≡ update_missed_of it.old frame }
 {
-    let old = *it;
-    let next = old.update_missed(frame);
-    *it = next.lifecycle;
-    next.number
+    let Updated { number, lifecycle } = it.update_missed(frame);
+    *it = lifecycle;
+    number
 }

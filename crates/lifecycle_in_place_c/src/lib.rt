@@ -8,7 +8,7 @@ ghost use Rattle.lifecycle_in_place.specs.InPlace.{answer};
 
 use lifecycle::TrackLifecycle;
 
-// The object is matched in a frame. The answer is the number; beside a refusal the record stays.
+/// The object is matched in a frame. The answer is the number; beside a refusal the record stays.
 #[unsafe(no_mangle)]
 pub extern "C" fn mot_update_matched(it: &mut TrackLifecycle, frame: i32) -> u32
     ensures { answer result it.new ≡ update_matched_of it.old frame }
@@ -16,7 +16,7 @@ pub extern "C" fn mot_update_matched(it: &mut TrackLifecycle, frame: i32) -> u32
     lifecycle_in_place::mot_update_matched(it, frame)
 }
 
-// The object is missed in a frame. The answer is the number; beside a refusal the record stays.
+/// The object is missed in a frame. The answer is the number; beside a refusal the record stays.
 #[unsafe(no_mangle)]
 pub extern "C" fn mot_update_missed(it: &mut TrackLifecycle, frame: i32) -> u32
     ensures { answer result it.new ≡ update_missed_of it.old frame }

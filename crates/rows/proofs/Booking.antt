@@ -2,7 +2,7 @@
 use mathlib.Core.Path.{◌≡◌, refl, sym, ap, ◌∙◌}
 use mathlib.Core.Bool.{Bool, true, false, cond, ◌||◌}
 use mathlib.Core.List.{List, ◌++◌, map}
-use Prim.Native.Nat.{ℕ, ◌<◌, ◌≤◌, ◌+◌, ◌-◌}
+use Prim.Native.Nat.{ℕ, zero, suc, ◌<◌, ◌≤◌, ◌+◌, ◌-◌}
 use native.Mathlib.Omega.{arith}
 use native.Mathlib.Numerals.{add-one}
 use borrow.Author.Tests.{ltb-true, ltb-false}
@@ -22,9 +22,7 @@ use Rattle.slots.proofs.Faults.{id_at}
 use Rattle.slots.proofs.Kept.{booked_id}
 use Rattle.rows.specs.declared.ExtendedMOTAccumulator.{ExtendedMOTAccumulator}
 use Rattle.rows.specs.declared.Row.{Row}
-use Rattle.rows.specs.declared.Spot.{Spot}
-use Rattle.rows.specs.declared.Step.{Step}
-use Rattle.rows.specs.Rows.{spot_of, row_spot, step_of, row_step, with_slot, trial_of, stepped, book_row, trial_after}
+use Rattle.rows.specs.Rows.{Spot, Step, Trial, spot_of, row_spot, step_of, row_step, with_slot, trial_of, stepped, book_row, trial_after}
 
 pub few_more : (b : Bool) (n k : ℕ) → n ≤ k → n + one_if b ≤ k + 1
 few_more true n k h = omega arith
@@ -114,3 +112,20 @@ one_more rows f s k t full over n e at a p q full' over' m b d g =
     (λ i. trial_of (with_slot t (a i) p.slot p.used) (b i) (d i) (n + g i))
     ∙ (ap (stepped (trial_of t full over n) (row_spot t (rows k)).at) q
     ∙ rw (add-one k) (ap (book_row f (rows k)) e))
+
+-- ---- a row that finds no place: the table is full, and stays so
+pub full_now : (rows : ℕ → Row) (f : ℤ) (s : ExtendedMOTAccumulator) (k : ℕ) (t : ExtendedMOTAccumulator) (over : Bool) (n : ℕ)
+    → trial_of t false over n ≡ trial_after rows f s k → (row_spot t (rows k)).full ≡ true → (trial_after rows f s (k + 1)).full ≡ true
+unfolding trial_after book_row step_of
+full_now rows f s k t over n e full =
+    rw (add-one k) (ap (λ (x : Trial). (book_row f (rows k) x).full) (sym e) ∙ rw full refl)
+
+full_by : (rows : ℕ → Row) (f : ℤ) (s : ExtendedMOTAccumulator) (k n : ℕ) → ((k ≤ n) → (trial_after rows f s n).full ≡ true) → k ≤ suc n
+    → (trial_after rows f s k).full ≡ true → (b : Bool) → ltb k (suc n) ≡ b → (trial_after rows f s (suc n)).full ≡ true
+unfolding trial_after book_row
+full_by rows f s k n before h e true b = let p = ltb-true k (suc n) b in rw (before (omega arith)) refl
+full_by rows f s k n before h e false b = let p = ltb-false k (suc n) b in let same : suc n ≡ k = omega arith in ap (λ (m : ℕ). (trial_after rows f s m).full) same ∙ e
+
+pub full_stays : (rows : ℕ → Row) (f : ℤ) (s : ExtendedMOTAccumulator) (k n : ℕ) → k ≤ n → (trial_after rows f s k).full ≡ true → (trial_after rows f s n).full ≡ true
+full_stays rows f s k zero h e = let same : zero ≡ k = omega arith in ap (λ (m : ℕ). (trial_after rows f s m).full) same ∙ e
+full_stays rows f s k (suc n) h e = full_by rows f s k n (λ (g : k ≤ n). full_stays rows f s k n g e) h e (ltb k (suc n)) refl

@@ -1,19 +1,20 @@
 -- Document 01, "Lifecycles and events": the booking of a frame's rows, on trial. Refusals 5 and 7 are read off its flags.
-use Rattle.std.specs.Prelude.{None, Some}
+use Rattle.std.specs.Prelude.{Option, None, Some, Result, Ok, Err}
 use Rattle.std.specs.Prelude.{Bool, true, false, ◌||◌, cond, List, ℕ, zero, suc, ◌+◌, ◌-◌, ◌<◌, ◌≤◌, ltb, ℤ, pos, get_or, set, replicate}
 use Rattle.floats.specs.Float.{zero64}
 use Rattle.counts.specs.Counts.{one_if}
 use Rattle.slots.specs.declared.Slot.{Slot}
-use Rattle.slots.specs.declared.BookedSlot.{BookedSlot}
 use Rattle.ids.specs.declared.Lookup.{Lookup}
 use Rattle.ids.specs.declared.Lookup.TheVariants.{At, Absent}
 use Rattle.ids.specs.Ids.{seek_of}
-use Rattle.slots.specs.Slots.{new_slot, no_slot, ids_of, booked_slot}
+use Rattle.refusals.specs.declared.Refusal.{Refusal}
+use Rattle.refusals.specs.declared.Refusal.TheVariants.{FullTable, Overflow}
+use Rattle.slots.specs.Slots.{BookedSlot, new_slot, no_slot, ids_of, booked_slot}
 use Rattle.rows.specs.declared.ExtendedMOTAccumulator.{ExtendedMOTAccumulator}
 use Rattle.rows.specs.declared.Row.{Row}
-use Rattle.rows.specs.declared.Spot.{Spot}
-use Rattle.rows.specs.declared.Step.{Step}
-use Rattle.rows.specs.declared.Trial.{Trial}
+use Rattle.rows.specs.declared.Place.{Place}
+use Rattle.rows.specs.declared.Step.{Step as Made}
+use Rattle.rows.specs.declared.Trial.{Trial as Passed}
 
 -- frame 0, nothing counted, no slot in use
 abbrev pub new_state : ExtendedMOTAccumulator
@@ -45,6 +46,27 @@ row_at gt pred pair_rows pair_cols left_rows pairs k =
     (record { id = get_or gt (get_or left_rows (k - pairs) 0) (pos 0); to = None })
 
 -- ---- one row
+-- where a row is booked: at the place of its id, at a fresh one after the used ones, or nowhere
+pub record Spot : Type 0 where
+  pub at : ℕ
+  pub fresh : Bool
+  pub full : Bool
+
+-- what a row does to the table: the slot that stands at its spot then, and how many places are used
+pub record Step : Type 0 where
+  pub slot : Slot
+  pub used : ℕ
+  pub full : Bool
+  pub over : Bool
+  pub switched : Bool
+
+-- a trial booking, which never stops: full where a new id found no place, over where a count would have passed
+pub record Trial : Type 0 where
+  pub state : ExtendedMOTAccumulator
+  pub full : Bool
+  pub over : Bool
+  pub switches : ℕ
+
 -- the id's own place, else the one after the used ones, else none: full
 unfoldable pub spot_of : Lookup → ℕ → Spot
 spot_of (At k) used = record { at = k; fresh = false; full = false }
@@ -94,3 +116,15 @@ book_row frame r t = stepped t (row_spot t.state r).at (row_step t.state r frame
 unfoldable pub trial_after : (ℕ → Row) → ℤ → ExtendedMOTAccumulator → ℕ → Trial
 trial_after rows frame s zero = trial_of s false false 0
 trial_after rows frame s (suc k) = book_row frame (rows k) (trial_after rows frame s k)
+
+-- ---- the same of what the code answers
+abbrev pub spot_answer : Option Place → Spot
+spot_answer None = record { at = 0; fresh = false; full = true }
+spot_answer (Some p) = record { at = p.at; fresh = p.fresh; full = false }
+
+abbrev pub step_answer : Made → Step
+step_answer p = record { slot = p.slot; used = p.used; full = false; over = p.over; switched = p.switched }
+
+-- 5 before 7, by what came of all rows
+abbrev pub trial_answer : Trial → Result Passed Refusal
+trial_answer t = cond t.full (Err FullTable) (cond t.over (Err Overflow) (Ok (record { state = t.state; switches = t.switches })))

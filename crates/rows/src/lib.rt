@@ -3,12 +3,12 @@
 #![tactic(auto)]
 
 ghost use Rattle.std.specs.Prelude.{◌≡◌, ◌+◌, ◌<◌, ◌≤◌, length};
-ghost use Rattle.rows.specs.Rows.{new_state, Lies, row_at, spot_of, step_of};
+ghost use Rattle.rows.specs.Rows.{new_state, Lies, row_at, spot_of, step_of, spot_answer, step_answer};
 
 use ids::Lookup;
-use slots::Slot;
+use slots::{Booked, Slot};
 
-// What an accumulator has counted so far, and its table: the first used slots, in order of first booking.
+/// What an accumulator has counted so far, and its table: the first used slots, in order of first booking.
 #[derive(Clone, Copy)]
 pub struct ExtendedMOTAccumulator {
     pub slots: [Slot; 256],
@@ -23,13 +23,12 @@ pub struct ExtendedMOTAccumulator {
 }
 
 impl ExtendedMOTAccumulator {
-    // Frame 0, and nothing counted.
+    /// Frame 0, and nothing counted.
     pub fn new() -> Self
         ensures { result ≡ new_state }
     {
-        let slot = slots::new_slot(0, 0);
         Self {
-            slots: [slot; 256],
+            slots: [slots::new_slot(0, 0); 256],
             used: 0,
             frame_id: 0,
             num_matches: 0,
@@ -42,41 +41,39 @@ impl ExtendedMOTAccumulator {
     }
 }
 
-// A truth row: its id, and the id of the prediction that it is matched to, or nobody where it is missed.
+/// A truth row: its id, and the id of the prediction that it is matched to, or nobody where it is missed.
 #[derive(Clone, Copy)]
 pub struct Row {
     pub id: i32,
     pub to: Option<i32>,
 }
 
-// Where a row is booked: at the place of its id, at a fresh one after the used ones, or nowhere.
+/// Where a row is booked: at the place of its id, or at a fresh one after the used ones.
 #[derive(Clone, Copy)]
-pub struct Spot {
+pub struct Place {
     pub at: usize,
     pub fresh: bool,
-    pub full: bool,
 }
 
-// What a row does to the table: the slot that stands at its spot then, and how many places are used.
+/// What a row does to the table: the slot that stands at its place then, and how many places are used. Where a count would have passed it
+/// is over, and the slot as it was: the rows go on, as a later one may find no place, which is the reason to give then.
 #[derive(Clone, Copy)]
 pub struct Step {
     pub slot: Slot,
     pub used: usize,
-    pub full: bool,
     pub over: bool,
     pub switched: bool,
 }
 
-// A trial booking, which never stops: full where a new id found no place, over where a count would have passed.
+/// What came of a trial booking.
 #[derive(Clone, Copy)]
 pub struct Trial {
     pub state: ExtendedMOTAccumulator,
-    pub full: bool,
-    pub over: bool,
     pub switches: usize,
 }
 
-// The row that is booked as number k: matched rows in the order of the pairs, then missed rows.
+/// The row that is booked as number k: matched rows in the order of the pairs, then missed rows.
+#[tactic(auto, unfolding(crate::specs::Rows::row_at))]
 pub fn row_at(
     gt_ids: &[i32],
     pred_ids: &[i32],
@@ -106,64 +103,46 @@ pub fn row_at(
     }
 }
 
-pub fn spot_of(found: Lookup, used: usize) -> Spot
-    ensures { result ≡ spot_of found used }
+/// Where a row is booked, by the lookup of its id in the used places; None where the table is full.
+#[tactic(auto, unfolding(crate::specs::Rows::spot_of))]
+pub fn place_of(found: Lookup, used: usize) -> Option<Place>
+    ensures { spot_answer result ≡ spot_of found used }
 {
-    let Lookup::At(k) = found else {
+    let Lookup::At(at) = found else {
         if used >= 256 {
-            return Spot {
-                at: 0,
-                fresh: false,
-                full: true,
-            };
+            return None;
         }
-        return Spot {
+        return Some(Place {
             at: used,
             fresh: true,
-            full: false,
-        };
+        });
     };
-    Spot {
-        at: k,
-        fresh: false,
-        full: false,
-    }
+    Some(Place { at, fresh: false })
 }
 
-// What a row does, given where it is booked and the slot that stands there.
-pub fn book_at(spot: Spot, old: Slot, used: usize, row: Row, frame: i32) -> Step
+/// What a row does, given where it is booked and the slot that stands there.
+#[tactic(auto, unfolding(crate::specs::Rows::step_of))]
+pub fn book_at(place: Place, old: Slot, used: usize, row: Row, frame: i32) -> Step
     requires { used ≤ 256 }
-    ensures { result ≡ step_of spot old used row frame }
+    ensures { step_answer result ≡ step_of (spot_answer (Some place)) old used row frame }
 {
-    let id = row.id;
-    let to = row.to;
-    if spot.full {
-        return Step {
-            slot: old,
-            used: used,
-            full: true,
+    let (before, used) = if place.fresh {
+        (slots::new_slot(row.id, frame), used + 1)
+    } else {
+        (old, used)
+    };
+    match slots::book_slot(before, row.to, frame) {
+        Some(Booked { slot, switched }) => Step {
+            slot,
+            used,
             over: false,
+            switched,
+        },
+        None => Step {
+            slot: before,
+            used,
+            over: true,
             switched: false,
-        };
-    }
-    if spot.fresh {
-        let made = slots::book_slot(slots::new_slot(id, frame), to, frame);
-        let slot = made.slot;
-        return Step {
-            slot: slot,
-            used: used + 1,
-            full: false,
-            over: made.over,
-            switched: made.switched,
-        };
-    }
-    let made = slots::book_slot(old, to, frame);
-    let slot = made.slot;
-    Step {
-        slot: slot,
-        used: used,
-        full: false,
-        over: made.over,
-        switched: made.switched,
+        },
     }
 }

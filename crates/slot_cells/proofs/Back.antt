@@ -1,5 +1,5 @@
 -- A slot read back from its numbers. Assumes nothing.
-use Rattle.std.specs.Prelude.{Option, None, Some}
+use Rattle.std.specs.Prelude.{ℤ, Option, None, Some}
 use mathlib.Core.Path.{◌≡◌, refl}
 use mathlib.Core.Bool.{Bool, true, false}
 use Rattle.slots.specs.declared.Slot.{Slot}

@@ -8,42 +8,27 @@ ghost use Rattle.slots.specs.Slots.{ids_filled, sound_of};
 
 use slots::Slot;
 
-// The ids of the first used slots, for a lookup; the places after them are 0. (A table has 256 places: callers ask that of a field.)
-pub fn ids_of(slots: [Slot; 256], used: usize) -> [i32; 256]
+/// The ids of the first used slots, for a lookup; the places after them are 0.
+pub fn ids_of(slots: &[Slot; 256], used: usize) -> [i32; 256]
     requires { used ≤ 256 }
-    ensures { (result ≡ ids_filled slots used) × (length slots ≡ 256) }
+    ensures { (result ≡ ids_filled slots.now used) × (length slots.now ≡ 256) }
 {
     let mut ids = [0i32; 256];
-    let mut i: usize = 0;
-    while i < used {
-        let slot = slots[i];
-        let it = slot.lifecycle;
-        let id = it.gt_id;
-        ids[i] = id;
-        i = i + 1;
+    for (i, slot) in slots[..used].iter().enumerate() {
+        ids[i] = slot.lifecycle.gt_id;
     }
     ids
 }
 
-// Whether a table that is handed in is one that refusal 1 lets by: the counts of each slot in use, and then the ids.
-// (One loop for both: a table that is handed on by value is copied.)
-pub fn sound(slots: [Slot; 256], used: usize) -> bool
-    ensures { result ≡ sound_of slots used }
+/// Whether a table that is handed in is one that refusal 1 lets by: the counts of each slot in use, and then the ids.
+pub fn sound(slots: &[Slot; 256], used: usize) -> bool
+    ensures { result ≡ sound_of slots.now used }
 {
     if used > 256 {
         return false;
     }
-    let mut known = [0i32; 256];
-    let mut i: usize = 0;
-    while i < used {
-        let slot = slots[i];
-        let it = slot.lifecycle;
-        if !it.sound() {
-            return false;
-        }
-        let own = it.gt_id;
-        known[i] = own;
-        i = i + 1;
+    if !slots[..used].iter().all(|slot| slot.lifecycle.sound()) {
+        return false;
     }
-    ids::distinct(&known[..used])
+    ids::distinct(&ids_of(slots, used)[..used])
 }

@@ -6,7 +6,7 @@ use Rattle.ids.specs.Ids.{distinct_of}
 use Rattle.lifecycle.specs.declared.TrackLifecycle.{TrackLifecycle}
 use Rattle.lifecycle.specs.Lifecycle.{fresh, matched_after, missed_after, room_to_match, room_to_miss, sound_counts}
 use Rattle.slots.specs.declared.Slot.{Slot}
-use Rattle.slots.specs.declared.BookedSlot.{BookedSlot}
+use Rattle.slots.specs.declared.Booked.{Booked}
 
 abbrev pub new_slot : ℤ → ℤ → Slot
 new_slot id frame = record { lifecycle = fresh id frame; partner = None }
@@ -32,6 +32,17 @@ ids_filled slots used = ids_of slots used ++ replicate (256 - used) (pos 0)
 abbrev pub switches : Option ℤ → ℤ → Bool
 switches None to = false
 switches (Some before) to = not (same_id before to)
+
+-- a slot after a frame: as it was, and over, where a count would pass
+pub record BookedSlot : Type 0 where
+  pub slot : Slot
+  pub over : Bool
+  pub switched : Bool
+
+-- the same of an answer of the code, given the slot that came
+abbrev pub slot_answer : Slot → Option Booked → BookedSlot
+slot_answer s None = record { slot = s; over = true; switched = false }
+slot_answer s (Some b) = record { slot = b.slot; over = false; switched = b.switched }
 
 -- with room the next lifecycle; without it the slot as it was, marked as over
 abbrev pub booked_if : Bool → Slot → TrackLifecycle → Option ℤ → Bool → BookedSlot

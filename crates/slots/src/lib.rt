@@ -4,26 +4,25 @@
 #![tactic(auto)]
 
 ghost use Rattle.std.specs.Prelude.{◌≡◌};
-ghost use Rattle.slots.specs.Slots.{new_slot, switches, missed_slot, matched_slot, booked_slot};
+ghost use Rattle.slots.specs.Slots.{new_slot, switches, missed_slot, matched_slot, booked_slot, slot_answer};
 
 use lifecycle::TrackLifecycle;
 
-
+/// What a table keeps of an id: its lifecycle, and the id that it was last matched to.
 #[derive(Clone, Copy)]
 pub struct Slot {
     pub lifecycle: TrackLifecycle,
     pub partner: Option<i32>,
 }
 
-// A slot after a frame in which its id stood: the slot as it was, and over, where a count would pass.
+/// A slot after a frame in which its id stood, and whether its match was a switch.
 #[derive(Clone, Copy)]
-pub struct BookedSlot {
+pub struct Booked {
     pub slot: Slot,
-    pub over: bool,
     pub switched: bool,
 }
 
-// A slot for an id that is booked for the first time.
+/// A slot for an id that is booked for the first time.
 pub fn new_slot(id: i32, frame: i32) -> Slot
     ensures { result ≡ new_slot id frame }
 {
@@ -33,66 +32,51 @@ pub fn new_slot(id: i32, frame: i32) -> Slot
     }
 }
 
-// Whether a match is a switch: the id was matched before, and to another.
+/// Whether a match is a switch: the id was matched before, and to another.
 pub fn is_switch(last: Option<i32>, to: i32) -> bool
     ensures { result ≡ switches last to }
 {
     let Some(before) = last else {
         return false;
     };
-    !counts::same_id(before, to)
+    before != to
 }
 
-fn book_missed(slot: Slot, frame: i32) -> BookedSlot
-    ensures { result ≡ missed_slot slot frame }
+#[tactic(auto, unfolding(crate::specs::Slots::missed_slot))]
+fn book_missed(slot: Slot, frame: i32) -> Option<Booked>
+    ensures { slot_answer slot result ≡ missed_slot slot frame }
 {
-    let it = slot.lifecycle;
-    let partner = slot.partner;
-    if !it.room_to_miss() {
-        return BookedSlot {
-            slot: slot,
-            over: true,
-            switched: false,
-        };
+    if !slot.lifecycle.room_to_miss() {
+        return None;
     }
-    let missed = it.missed(frame);
-    BookedSlot {
+    Some(Booked {
         slot: Slot {
-            lifecycle: missed,
-            partner: partner,
+            lifecycle: slot.lifecycle.missed(frame),
+            partner: slot.partner,
         },
-        over: false,
         switched: false,
-    }
+    })
 }
 
-fn book_matched(slot: Slot, to: i32, frame: i32) -> BookedSlot
-    ensures { result ≡ matched_slot slot to frame }
+#[tactic(auto, unfolding(crate::specs::Slots::matched_slot))]
+fn book_matched(slot: Slot, to: i32, frame: i32) -> Option<Booked>
+    ensures { slot_answer slot result ≡ matched_slot slot to frame }
 {
-    let it = slot.lifecycle;
-    let partner = slot.partner;
-    if !it.room_to_match() {
-        return BookedSlot {
-            slot: slot,
-            over: true,
-            switched: false,
-        };
+    if !slot.lifecycle.room_to_match() {
+        return None;
     }
-    let switched = is_switch(partner, to);
-    let matched = it.matched(frame);
-    BookedSlot {
+    Some(Booked {
         slot: Slot {
-            lifecycle: matched,
+            lifecycle: slot.lifecycle.matched(frame),
             partner: Some(to),
         },
-        over: false,
-        switched: switched,
-    }
+        switched: is_switch(slot.partner, to),
+    })
 }
 
-// A slot after a frame that its id was matched in, or missed: matched to is an id, or nobody.
-pub fn book_slot(slot: Slot, to: Option<i32>, frame: i32) -> BookedSlot
-    ensures { result ≡ booked_slot slot to frame }
+/// A slot after a frame that its id was matched in, to an id, or missed; None where a count would pass.
+pub fn book_slot(slot: Slot, to: Option<i32>, frame: i32) -> Option<Booked>
+    ensures { slot_answer slot result ≡ booked_slot slot to frame }
 {
     match to {
         None => book_missed(slot, frame),

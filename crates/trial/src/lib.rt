@@ -2,13 +2,13 @@
 // Ported from norfair-rs, internal/motmetrics/accumulator.rs, which follows py-motmetrics (NOTICE).
 #![tactic(auto)]
 
-ghost use Rattle.std.specs.Prelude.{◌≡◌, ◌+◌, ◌≤◌, length};
-ghost use Rattle.rows.specs.Rows.{Lies, row_at, trial_after};
+ghost use Rattle.std.specs.Prelude.{◌≡◌, ◌+◌, ◌≤◌, length, IfOk};
+ghost use Rattle.rows.specs.Rows.{Lies, row_at, trial_after, trial_answer};
 
-use counts::either;
-use rows::{ExtendedMOTAccumulator, Trial, book_at, row_at, spot_of};
+use refusals::Refusal;
+use rows::{ExtendedMOTAccumulator, Trial, book_at, place_of, row_at};
 
-// The rows of a pairing, booked in order on a copy of the state.
+/// The rows of a pairing, booked in order on a copy of the state. Refused where a new id finds no place, and else where a count would pass.
 pub fn book_rows(
     s: ExtendedMOTAccumulator,
     gt_ids: &[i32],
@@ -19,41 +19,34 @@ pub fn book_rows(
     pairs: usize,
     lefts: usize,
     frame: i32,
-) -> Trial
+) -> Result<Trial, Refusal>
     requires used_bound { s.used ≤ 256 }
     requires lies { Lies (length gt_ids.now) (length pred_ids.now) pair_rows.now pair_cols.now left_rows.now pairs lefts }
-    ensures { (result ≡ trial_after (row_at gt_ids.now pred_ids.now pair_rows.now pair_cols.now left_rows.now pairs) frame s (pairs + lefts)) × (result.switches ≤ pairs + lefts) }
+    ensures booked { result ≡ trial_answer (trial_after (row_at gt_ids.now pred_ids.now pair_rows.now pair_cols.now left_rows.now pairs) frame s (pairs + lefts)) }
+    ensures few { IfOk result (λ t. t.switches ≤ pairs + lefts) }
 {
     let mut t = s;
-    let mut ids = slot_tables::ids_of(t.slots, t.used);
-    let mut full = false;
+    let mut ids = slot_tables::ids_of(&t.slots, t.used);
     let mut over = false;
     let mut switches: usize = 0;
-    let mut k: usize = 0;
-    let n = pairs + lefts;
-    while k < n {
+    for k in 0..pairs + lefts {
         let row = row_at(
             gt_ids, pred_ids, pair_rows, pair_cols, left_rows, pairs, lefts, k,
         );
-        let used = t.used;
-        let spot = spot_of(ids::seek(&ids[..used], row.id), used);
-        let at = spot.at;
-        let p = book_at(spot, t.slots[at], used, row, frame);
-        let slot = p.slot;
-        let it = slot.lifecycle;
-        let id = it.gt_id;
-        t.slots[at] = slot;
-        ids[at] = id;
-        t.used = p.used;
-        full = either(full, p.full);
-        over = either(over, p.over);
-        switches = switches + counts::one_if(p.switched);
-        k = k + 1;
+        let found = ids::seek(&ids[..t.used], row.id);
+        let Some(place) = place_of(found, t.used) else {
+            return Err(Refusal::FullTable);
+        };
+        let at = place.at;
+        let step = book_at(place, t.slots[at], t.used, row, frame);
+        t.slots[at] = step.slot;
+        ids[at] = step.slot.lifecycle.gt_id;
+        t.used = step.used;
+        over |= step.over;
+        switches += usize::from(step.switched);
     }
-    Trial {
-        state: t,
-        full: full,
-        over: over,
-        switches: switches,
+    if over {
+        return Err(Refusal::Overflow);
     }
+    Ok(Trial { state: t, switches })
 }

@@ -14,15 +14,14 @@ use Rattle.inplace.proofs.undo.Goals as goal
 pub loop-k-preserved : goal.loop-k-preserved
 loop-k-preserved c =
     let h = c.loop-k-test.true in
-    let g = c.loop-k.invariant.0 in
     let e = c.write.ensures ∙ ap (put c.loop-k.run 256 (get_or c.args.places.now (c.loop-k.k - 1) 0)) c.read.ensures in (
-      omega arith,
-      ap length e ∙ (put_long c.loop-k.run 256 _ _ ∙ c.loop-k.invariant.1),
-      ap (λ (x : List ℤ). undone x c.args.places.now c.args.log.now (c.loop-k.k - 1)) e ∙ (undone_less c.loop-k.run c.args.places.now c.args.log.now c.loop-k.k h ∙ c.loop-k.invariant.2),
+      ap length e ∙ (put_long c.loop-k.run 256 _ _ ∙ c.loop-k.invariant.0),
+      ap (λ (x : List ℤ). undone x c.args.places.now c.args.log.now (c.loop-k.k - 1)) e
+          ∙ (undone_less c.loop-k.run c.args.places.now c.args.log.now c.loop-k.k (omega arith) ∙ c.loop-k.invariant.1),
     )
 
 pub returns : goal.returns
 unfolding undone
 returns c =
-    let z : c.loop-k.k ≡ 0 = omega arith in
-    sym (ap (undone c.loop-k.run c.args.places.now c.args.log.now) z) ∙ c.loop-k.invariant.2
+    let z : c.loop-k.k ≡ 0 = (let h = c.loop-k-test.false in omega arith) in
+    sym (ap (undone c.loop-k.run c.args.places.now c.args.log.now) z) ∙ c.loop-k.invariant.1
