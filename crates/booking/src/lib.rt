@@ -37,28 +37,27 @@ pub fn left_of(marks: &[bool; 64], n: usize) -> [usize; 64]
     left
 }
 
-#[tactic(auto, unfolding(crate::specs::Booking::event_at))]
 /// Event number `k` of a frame: pairs in their order, then rows that are left, then columns that are left.
+#[tactic(auto, unfolding(crate::specs::Booking::event_at))]
 pub fn event_at(
     frame: i32,
     object_ids: &[i32],
     hypothesis_ids: &[i32],
     distances: &[f64],
-    pairs: &[u32; 64],
+    p: &Pairing,
     switched: &[bool; 64],
-    used: usize,
     left_rows: &[usize; 64],
     left_cols: &[usize; 64],
     k: usize,
 ) -> Event
-    requires lists { Lists (length object_ids.now) (length hypothesis_ids.now) pairs.now used left_rows.now left_cols.now }
-    requires distances_len { (length distances.now ≡ length object_ids.now * length hypothesis_ids.now) × (k + used < length object_ids.now + length hypothesis_ids.now) }
-    ensures { result ≡ event_at frame object_ids.now hypothesis_ids.now distances.now pairs.now switched.now used left_rows.now left_cols.now k }
+    requires lists { Lists (length object_ids.now) (length hypothesis_ids.now) p.now.pairs p.now.used left_rows.now left_cols.now }
+    requires distances_len { (length distances.now ≡ length object_ids.now * length hypothesis_ids.now) × (k + p.now.used < length object_ids.now + length hypothesis_ids.now) }
+    ensures { result ≡ event_at frame object_ids.now hypothesis_ids.now distances.now p.now.pairs switched.now p.now.used left_rows.now left_cols.now k }
 {
     let n = object_ids.len();
-    if k < used {
+    if k < p.used {
         let w = hypothesis_ids.len();
-        let place = pairs[k];
+        let place = p.pairs[k];
         let row = greedy::row_of(place, w);
         let col = greedy::col_of(place, w);
         return pair_event(
@@ -70,7 +69,7 @@ pub fn event_at(
         );
     }
     let what = if k < n {
-        What::Miss(object_ids[left_rows[k - used]])
+        What::Miss(object_ids[left_rows[k - p.used]])
     } else {
         What::FalsePositive(hypothesis_ids[left_cols[k - n]])
     };
@@ -102,9 +101,8 @@ pub fn book_frame(
             object_ids,
             hypothesis_ids,
             distances,
-            &p.pairs,
+            &p,
             switched,
-            p.used,
             &left_rows,
             &left_cols,
             k,

@@ -7,9 +7,10 @@ ghost use Rattle.greedy.specs.Greedy.{Fitting};
 ghost use Rattle.booking.specs.Booking.{events_of};
 ghost use Rattle.booking_in_place.specs.Written.{numbers_after, distances_after};
 
+use event_columns::Cells;
 use greedy::Pairing;
 
-// The events of a frame at start and after it; every other number stays. It returns how many events the log has then.
+/// The events of a frame at `start` and after it; every other number stays. It returns how many events the log has then.
 pub fn book_frame(
     numbers: &mut [i32],
     log_distances: &mut [f64],
@@ -29,34 +30,22 @@ pub fn book_frame(
     ensures numbers_after { numbers.new ≡ numbers_after numbers.old start (events_of frame object_ids.now hypothesis_ids.now distances.now p switched.now) }
     ensures log_distances_after { log_distances.new ≡ distances_after log_distances.old start (events_of frame object_ids.now hypothesis_ids.now distances.now p switched.now) }
 {
-    let used = p.used;
-    let pairs = p.pairs;
-    let rows = p.rows;
-    let cols = p.cols;
-    let left_rows = booking::left_of(&rows, object_ids.len());
-    let left_cols = booking::left_of(&cols, hypothesis_ids.len());
-    let count = object_ids.len() + hypothesis_ids.len() - used;
-    let mut k: usize = 0;
-    while k < count {
+    let left_rows = booking::left_of(&p.rows, object_ids.len());
+    let left_cols = booking::left_of(&p.cols, hypothesis_ids.len());
+    let count = object_ids.len() + hypothesis_ids.len() - p.used;
+    for k in 0..count {
         let event = booking::event_at(
             frame,
             object_ids,
             hypothesis_ids,
             distances,
-            &pairs,
+            &p,
             switched,
-            used,
             &left_rows,
             &left_cols,
             k,
         );
-        event_columns::write(
-            numbers,
-            log_distances,
-            start + k,
-            event_columns::cells_of(event),
-        );
-        k = k + 1;
+        event_columns::write(numbers, log_distances, start + k, Cells::from(event));
     }
     start + count
 }

@@ -153,22 +153,26 @@ module _ (n w : ℕ) (order : List ℕ) (i : ℕ) (n64 : n ≤ 64) (w64 : w ≤ 
   next : taken_of w (take (i + 1) order) ≡ t ++ cond (both_free w p.rows p.cols k) (k ∷ []) []
   next = rw (add-one i, take-suc order i 0 h, rows_are, cols_are) (taken_more w (take i order) k none none)
 
-  module _ (row col : ℕ) (er : row ≡ k / w) (ec : col ≡ k % w) where
+  -- the code's test: b, of the row and the column in hand
+  module _ (row col : ℕ) (b : Bool) (er : row ≡ k / w) (ec : col ≡ k % w) (eb : b ≡ (not (on p.rows row) && not (on p.cols col))) where
+    is_free : both_free w p.rows p.cols k ≡ b
+    is_free = sym (eb ∙ rw (er, ec) refl)
+
     -- a pair that is taken has room
-    pub room : on p.rows row ≡ false → p.used < 64
+    pub room : b ≡ true → p.used < 64
     room f =
-        let q : on (marked (rows_of w t) none) (k / w) ≡ false = rw (er, rows_are) at f in
+        let q : on (marked (rows_of w t) none) (k / w) ≡ false = rw rows_are at (free_row (on p.rows (k / w)) (on p.cols (k % w)) (is_free ∙ f)) in
         let a = counted n (rows_of w t) (rows_fresh n w (take i order) n64 w64 so_far) (rows_inside n w (take i order) n64 w64 so_far) in
         let c = count_room n (on (marked (rows_of w t) none)) (k / w) (row_in k n w pair_in) q in
         let d = length-map t (λ j. j / w) in
         let u = used_is in
         omega arith
 
-    pub takes : (p' : Pairing) → on p.rows row ≡ false → on p.cols col ≡ false
+    pub takes : (p' : Pairing) → b ≡ true
         → p' ≡ record { pairs = set p.pairs p.used k; used = p.used + 1; rows = set p.rows row true; cols = set p.cols col true } → p' ≡ pairing_of w (take (i + 1) order)
     unfolding pairing_of
-    takes p' f g ep =
-        let one : taken_of w (take (i + 1) order) ≡ t ++ (k ∷ []) = next ∙ rw (← er, ← ec, f, g) refl in
+    takes p' f ep =
+        let one : taken_of w (take (i + 1) order) ≡ t ++ (k ∷ []) = next ∙ rw (is_free, f) refl in
         let r = room f in
         let u = used_is in
         ep
@@ -180,13 +184,6 @@ module _ (n w : ℕ) (order : List ℕ) (i : ℕ) (n64 : n ≤ 64) (w64 : w ≤ 
         })
         ∙ ap (pairing_with w) (sym one))
 
-    -- its row is gone, or its column
-    skips : (p' : Pairing) → both_free w p.rows p.cols k ≡ false → p' ≡ p → p' ≡ pairing_of w (take (i + 1) order)
+    pub skips : (p' : Pairing) → b ≡ false → p' ≡ p → p' ≡ pairing_of w (take (i + 1) order)
     unfolding pairing_of
-    skips p' f ep = ep ∙ held ∙ ap (pairing_with w) (sym (append-nil t) ∙ sym (rw f at next))
-
-    pub row_gone : (p' : Pairing) → on p.rows row ≡ true → p' ≡ p → p' ≡ pairing_of w (take (i + 1) order)
-    row_gone p' f = skips p' (rw (← er, f) refl)
-
-    pub col_gone : (p' : Pairing) → on p.rows row ≡ false → on p.cols col ≡ true → p' ≡ p → p' ≡ pairing_of w (take (i + 1) order)
-    col_gone p' f g = skips p' (rw (← er, ← ec, f, g) refl)
+    skips p' f ep = ep ∙ held ∙ ap (pairing_with w) (sym (append-nil t) ∙ sym (next ∙ rw (is_free, f) refl))

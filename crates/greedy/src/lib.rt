@@ -2,7 +2,8 @@
 // Ported from norfair-rs, internal/motmetrics/accumulator.rs and metrics/accumulator.rs (NOTICE): marks where the Rust has hash sets.
 #![tactic(auto)]
 
-ghost use Rattle.std.specs.Prelude.{◌≡◌, ◌*◌, ◌<◌, ◌≤◌, ◌/◌, ◌%◌};
+ghost use Rattle.std.specs.Prelude.{◌≡◌, not, ◌&&◌, ◌*◌, ◌<◌, ◌≤◌, ◌/◌, ◌%◌};
+ghost use Rattle.square.specs.Index.{on};
 ghost use Rattle.sorting.specs.Order.{Each};
 ghost use Rattle.greedy.specs.Greedy.{pairing_of};
 
@@ -31,6 +32,13 @@ pub fn col_of(place: u32, w: usize) -> usize
     (place % w as u32) as usize
 }
 
+fn both_free(p: &Pairing, row: usize, col: usize) -> bool
+    requires { (row < 64) × (col < 64) }
+    ensures { result ≡ (not (on p.now.rows row) && not (on p.now.cols col)) }
+{
+    !p.rows[row] && !p.cols[col]
+}
+
 /// The pairs of `n` rows and `w` columns that are taken.
 pub fn take_pairs(order: &[u32], n: usize, w: usize) -> Pairing
     requires { (n ≤ 64) × (w ≤ 64) × Each (λ k. k < n * w) order.now }
@@ -45,7 +53,7 @@ pub fn take_pairs(order: &[u32], n: usize, w: usize) -> Pairing
     for place in order {
         let row = row_of(*place, w);
         let col = col_of(*place, w);
-        if !p.rows[row] && !p.cols[col] {
+        if both_free(&p, row, col) {
             p.pairs[p.used] = *place;
             p.used += 1;
             p.rows[row] = true;

@@ -1,4 +1,5 @@
 // A stable sort of places by the floats that stand there: the port's own, where the Rust calls sort_by.
+// Kept: a sort of its own, as a slice's stable sort takes an allocator of the library, and these crates have no heap.
 #![tactic(auto)]
 
 ghost use Rattle.std.specs.Prelude.{◌≡◌, ◌+◌, ◌-◌, ◌<◌, ◌≤◌, length, take, slice_index, position};
