@@ -20,8 +20,17 @@ fn book(run: &mut [i32], totals: Totals, gt_ids: &[i32], pred_ids: &[i32], p: Pa
     ensures { Framed run.old totals (rows_in gt_ids.now pred_ids.now (found p)) p.pairs p.lefts p.extra (length gt_ids.now) p.distance run.new result }
 {
     inplace::book_frame(
-        run, totals, gt_ids, pred_ids, &p.pair_rows, &p.pair_cols, &p.left_rows, p.pairs, p.lefts,
-        p.extra, p.distance,
+        run,
+        totals,
+        gt_ids,
+        pred_ids,
+        &p.pair_rows,
+        &p.pair_cols,
+        &p.left_rows,
+        p.pairs,
+        p.lefts,
+        p.extra,
+        p.distance,
     )
 }
 
@@ -39,7 +48,14 @@ pub fn update_in_place(
     ensures { Updated run.old totals gt_ids.now gt_bboxes.now pred_ids.now pred_bboxes.now threshold run.new result }
 {
     let total = totals.total_distance;
-    match pairing::pair(gt_ids.len(), gt_bboxes, pred_ids.len(), pred_bboxes, threshold, total) {
+    match pairing::pair(
+        gt_ids.len(),
+        gt_bboxes,
+        pred_ids.len(),
+        pred_bboxes,
+        threshold,
+        total,
+    ) {
         Ok(p) => book(run, totals, gt_ids, pred_ids, p),
         Err(refusal) => Closed {
             number: refusal.number(),

@@ -1,7 +1,6 @@
 -- `motmetrics_flat::sound` meets its contract. Assumes nothing.
-use mathlib.Core.Path.{◌≡◌, sym}
+use mathlib.Core.Path.{sym}
 use native.Mathlib.Omega.{arith}
-use lib.ListN.{length, take}
 use lib.Seq.{length-take-le}
 use Rattle.motmetrics_flat.proofs.sound.Goals as goal
 
