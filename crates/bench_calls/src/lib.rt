@@ -4,7 +4,6 @@
 
 use evaluation::MOTMetrics;
 use events::Log;
-use iou::Distance;
 use lifecycle::TrackLifecycle;
 use metrics::{Count, EventType};
 use partners::Truths;
@@ -16,7 +15,7 @@ fn distances_onto(sum: f64, boxes: &[f64]) -> f64 {
     for i in 0..boxes.len() / 4 {
         let first = matrix_numbers::box_at(boxes, 0);
         let other = matrix_numbers::box_at(boxes, i);
-        if let Distance::Value(d) = iou::iou_distance(first, other) {
+        if let Ok(d) = iou::iou_distance(first, other) {
             total += d;
         }
     }

@@ -18,7 +18,7 @@ use Rattle.frame.specs.Held.{Held}
 use Rattle.frame.specs.Tracked.{TrackedWithin}
 use Rattle.frame.proofs.Soundness.{frame_sound}
 use Rattle.frame.proofs.Kept.{frame_long, frame_held, frame_tracked}
-use Rattle.pairing.specs.declared.Pairing.{Pairing}
+use Rattle.pairing.specs.Pairing.{Pairing}
 use Rattle.extended.specs.Update.{rows_in, pairing_in, update_of}
 use Rattle.extended.specs.Play.{Frame, update_by, played_of}
 use Rattle.extended.proofs.Ways.{sound_used, update_ways}

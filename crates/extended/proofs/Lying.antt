@@ -14,7 +14,7 @@ use Rattle.matrix.specs.declared.Measure.TheVariants.{Away}
 use Rattle.matrix.proofs.Laws.{length_matrix, or_zero}
 use Rattle.solver.specs.Solution.{solution_of}
 use Rattle.solver.proofs.Lists.{Placed, solution_placed}
-use Rattle.pairing.specs.declared.Pairing.{Pairing}
+use Rattle.pairing.specs.Pairing.{Pairing}
 use Rattle.shape.specs.Shape.{shape_no}
 use Rattle.shape.proofs.Sides.{sides}
 use Rattle.pairing.specs.Pairing.{pairing_no, no_pairs, paired_of, frame_pairs, pairing_at, pairing_of}

@@ -21,7 +21,7 @@ use Rattle.frame.specs.Held.{Held}
 use Rattle.frame.proofs.Finals as finals
 use Rattle.frame.proofs.Kept.{held_fits}
 use Rattle.frame.proofs.Machine.{held}
-use Rattle.pairing.specs.declared.Pairing.{Pairing}
+use Rattle.pairing.specs.Pairing.{Pairing}
 use Rattle.pairing.specs.Pairing.{pairing_no, no_pairs, paired_of, frame_pairs, pairing_at, pairing_of}
 use Rattle.shape.proofs.Sides.{or_next}
 use Rattle.extended.specs.Update.{rows_in, pairing_in, booked_with, update_of}

@@ -16,7 +16,7 @@ use Rattle.frame.specs.Frame.{sound_state, next_frame, shares_of, raised_by, tri
 use Rattle.frame.specs.Held.{Held}
 use Rattle.frame.proofs.Finals as finals
 use Rattle.frame.proofs.Kept.{held_fits}
-use Rattle.pairing.specs.declared.Pairing.{Pairing}
+use Rattle.pairing.specs.Pairing.{Pairing}
 use Rattle.extended.specs.Update.{rows_in, pairing_in, booked_with, update_of}
 use Rattle.extended.specs.Number.{tally_in}
 use Rattle.extended.proofs.Ways.{sound_used, update_ways}

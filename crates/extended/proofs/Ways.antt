@@ -13,7 +13,12 @@ use Rattle.slots.specs.Slots.{sound_of}
 use Rattle.rows.specs.declared.ExtendedMOTAccumulator.{ExtendedMOTAccumulator}
 use Rattle.frame.specs.declared.Booked.{Booked}
 use Rattle.frame.specs.Frame.{sound_state, totals_sound}
-use Rattle.pairing.specs.declared.Pairing.{Pairing}
+use native.Mathlib.Omega.{arith}
+use Rattle.std.specs.Prelude.{Err}
+use Rattle.refusals.specs.declared.Refusal.{Refusal}
+use Rattle.refusals.specs.declared.Refusal.TheVariants.{Unsound, TooMany, Misfit, EmptyBox, FullTable, NoRoom, Overflow}
+use Rattle.refusals.specs.Refusals.{number_of}
+use Rattle.pairing.specs.Pairing.{Pairing, no_pairs, answered}
 use Rattle.extended.specs.Update.{refused_at, Lie, booked_with, pairing_in, paired_after, frame_after, update_of}
 use Rattle.extended.proofs.Lying.{pairing_lies}
 
@@ -25,6 +30,24 @@ table_used s e = leb-true _ _ (and_left _ _ e)
 pub sound_used : (s : ExtendedMOTAccumulator) → sound_state s ≡ true → s.used ≤ 256
 unfolding sound_state
 sound_used s e = table_used s (and_right (totals_sound s) _ e)
+
+-- no reason has the number 0
+some_number : (r : Refusal) → number_of r ≡ 0 → ⊥
+some_number Unsound h = omega arith
+some_number TooMany h = omega arith
+some_number Misfit h = omega arith
+some_number EmptyBox h = omega arith
+some_number FullTable h = omega arith
+some_number NoRoom h = omega arith
+some_number Overflow h = omega arith
+
+-- the pairing that a refusal stands for has its number, which is not 0
+pub number_there : (r : Refusal) → (answered (Err r)).number ≡ number_of r
+unfolding no_pairs
+number_there r = refl
+
+pub not_zero : (r : Refusal) → (answered (Err r)).number ≡ 0 → ⊥
+not_zero r h = some_number r (sym (number_there r) ∙ h)
 
 module _ (s : ExtendedMOTAccumulator) (gt_ids : List ℤ) (gt : List Float) (pred_ids : List ℤ) (pred : List Float) (threshold : Float) where
   module _ (p : Pairing) (is : p ≡ pairing_in s gt_ids gt pred_ids pred threshold) where

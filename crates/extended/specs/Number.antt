@@ -5,7 +5,7 @@ use Rattle.matrix.specs.Matrix.{or_no}
 use Rattle.rows.specs.declared.ExtendedMOTAccumulator.{ExtendedMOTAccumulator}
 use Rattle.frame.specs.Frame.{sound_state}
 use Rattle.frame.specs.Unbounded.{Tally, final_no, final_tally}
-use Rattle.pairing.specs.declared.Pairing.{Pairing}
+use Rattle.pairing.specs.Pairing.{Pairing}
 use Rattle.pairing.specs.Pairing.{pairing_no}
 use Rattle.extended.specs.Update.{rows_in, pairing_in}
 

@@ -4,7 +4,7 @@ use Rattle.std.specs.Prelude.{cond, List, eqb, ℤ, length, Float}
 use Rattle.rows.specs.declared.ExtendedMOTAccumulator.{ExtendedMOTAccumulator}
 use Rattle.frame.specs.declared.Booked.{Booked}
 use Rattle.frame.specs.Frame.{sound_state}
-use Rattle.pairing.specs.declared.Pairing.{Pairing}
+use Rattle.pairing.specs.Pairing.{Pairing}
 use Rattle.pairing.specs.Pairing.{pairing_of}
 pub use Rattle.extended_booking.specs.Booking.{refused_at, Lie, rows_in, booked_with}
 

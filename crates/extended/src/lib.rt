@@ -1,5 +1,5 @@
-// The extended accumulator's update: a frame paired, summed and booked whole, or refused with the state as it came.
-// Ported from norfair-rs, internal/motmetrics/accumulator.rs, which follows py-motmetrics (NOTICE).
+//! The extended accumulator's update: a frame paired, summed and booked whole, or refused with the state as it came.
+//! Ported from norfair-rs, internal/motmetrics/accumulator.rs, which follows py-motmetrics (NOTICE).
 #![tactic(auto)]
 
 ghost use Rattle.std.specs.Prelude.{◌≡◌, ◌≤◌};
@@ -9,7 +9,7 @@ use extended_booking::{book, refused};
 use frame::Booked;
 use rows::ExtendedMOTAccumulator;
 
-// The update of a state that is sound already: nothing of its table is tested again. Of soundness it needs the used count alone.
+/// The update of a state that is sound already: nothing of its table is tested again. Of soundness it needs the used count alone.
 pub fn update_sound(
     s: ExtendedMOTAccumulator,
     gt_ids: &[i32],
@@ -22,16 +22,20 @@ pub fn update_sound(
     ensures { result ≡ frame_after s gt_ids.now gt_bboxes.now pred_ids.now pred_bboxes.now threshold }
 {
     let total = s.total_distance;
-    let h = gt_ids.len();
-    let w = pred_ids.len();
-    let p = pairing::pair(h, gt_bboxes, w, pred_bboxes, threshold, total);
-    if p.number != 0 {
-        return refused(p.number, s);
+    match pairing::pair(
+        gt_ids.len(),
+        gt_bboxes,
+        pred_ids.len(),
+        pred_bboxes,
+        threshold,
+        total,
+    ) {
+        Ok(p) => book(s, gt_ids, pred_ids, p),
+        Err(refusal) => refused(refusal.number(), s),
     }
-    book(s, gt_ids, pred_ids, p)
 }
 
-// The update of any state by any frame: the lowest number that applies, and the state.
+/// The update of any state by any frame: the lowest number that applies, and the state.
 pub fn update(
     s: ExtendedMOTAccumulator,
     gt_ids: &[i32],

@@ -5,7 +5,7 @@ use Rattle.rows.specs.declared.Row.{Row}
 use Rattle.rows.specs.Rows.{Lies, row_at}
 use Rattle.frame.specs.declared.Booked.{Booked}
 use Rattle.frame.specs.Frame.{frame_of}
-use Rattle.pairing.specs.declared.Pairing.{Pairing}
+use Rattle.pairing.specs.Pairing.{Pairing}
 
 -- beside a refusal the state is the one that came
 abbrev pub refused_at : ℕ → ExtendedMOTAccumulator → Booked

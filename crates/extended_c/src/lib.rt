@@ -1,9 +1,9 @@
-// The extended accumulator for C and Rust: its state is lent as flat numbers, and stays with the caller between updates.
+//! The extended accumulator for C and Rust: its state is lent as flat numbers, and stays with the caller between updates.
 #![tactic(auto)]
 
 ghost use Rattle.extended_flat.specs.Flat.{Answered};
 
-// The extended accumulator: nine columns of 256 numbers, seven counters, one distance.
+/// The extended accumulator: nine columns of 256 numbers, seven counters, one distance.
 #[unsafe(no_mangle)]
 pub extern "C" fn mot_extended_update(
     run: &mut [i32],

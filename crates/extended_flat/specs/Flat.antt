@@ -4,7 +4,7 @@ use Rattle.std.specs.Int.Signed.{non_neg}
 use Rattle.std.specs.Float.{nan}
 use Rattle.sizes.specs.Sizes.{lengths_no}
 use Rattle.shape.specs.Shape.{shape_no}
-use Rattle.pairing.specs.declared.Pairing.{Pairing}
+use Rattle.pairing.specs.Pairing.{Pairing}
 use Rattle.rows.specs.declared.ExtendedMOTAccumulator.{ExtendedMOTAccumulator}
 use Rattle.frame.specs.declared.Booked.{Booked}
 use Rattle.totals.specs.declared.Totals.{Totals}

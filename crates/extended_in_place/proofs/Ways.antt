@@ -5,7 +5,7 @@ use borrow.Author.Tests.{ne_eqb}
 use lib.IntN.{ℤ}
 use lib.ListN.{length}
 use lib.Ieee.{Float}
-use Rattle.pairing.specs.declared.Pairing.{Pairing}
+use Rattle.pairing.specs.Pairing.{Pairing}
 use Rattle.extended.specs.Update.{rows_in, pairing_in}
 use Rattle.extended.proofs.Ways as ways
 use Rattle.totals.specs.declared.Totals.{Totals}

@@ -1,6 +1,6 @@
 -- The extended accumulator's update over a run of numbers and its totals.
 use Rattle.std.specs.Prelude.{List, ◌≡◌, ◌+◌, ℤ, Float}
-use Rattle.pairing.specs.declared.Pairing.{Pairing}
+use Rattle.pairing.specs.Pairing.{Pairing}
 use Rattle.extended.specs.Update.{rows_in, pairing_in, frame_after}
 use Rattle.totals.specs.declared.Totals.{Totals}
 use Rattle.inplace.specs.declared.Closed.{Closed}

@@ -1,9 +1,10 @@
-// The extended accumulator's inner update in place: the table is a lent run of numbers, and no state is copied. Playback and the
-// border to C call it.
-// Ported from norfair-rs, internal/motmetrics/accumulator.rs, which follows py-motmetrics (NOTICE).
+//! The extended accumulator's inner update in place: the table is a lent run of numbers, and no state is copied. Playback and the
+//! border to C call it.
+//! Ported from norfair-rs, internal/motmetrics/accumulator.rs, which follows py-motmetrics (NOTICE).
 #![tactic(auto)]
 
 ghost use Rattle.std.specs.Prelude.{◌≡◌, ◌≤◌, length};
+ghost use Rattle.pairing.specs.Pairing.{found};
 ghost use Rattle.extended.specs.Update.{Lie, rows_in};
 ghost use Rattle.inplace.specs.InPlace.{Framed};
 ghost use Rattle.extended_in_place.specs.Updated.{Updated};
@@ -15,19 +16,25 @@ use totals::Totals;
 // A frame whose pairing is there.
 fn book(run: &mut [i32], totals: Totals, gt_ids: &[i32], pred_ids: &[i32], p: Pairing) -> Closed
     requires used_bound { (totals.used ≤ 256) × (length run.old ≡ 2304) }
-    requires lie { Lie (length gt_ids.now) (length pred_ids.now) p }
-    ensures { Framed run.old totals (rows_in gt_ids.now pred_ids.now p) p.pairs p.lefts p.extra (length gt_ids.now) p.distance run.new result }
+    requires lie { Lie (length gt_ids.now) (length pred_ids.now) (found p) }
+    ensures { Framed run.old totals (rows_in gt_ids.now pred_ids.now (found p)) p.pairs p.lefts p.extra (length gt_ids.now) p.distance run.new result }
 {
-    let pair_rows = p.pair_rows;
-    let pair_cols = p.pair_cols;
-    let left_rows = p.left_rows;
     inplace::book_frame(
-        run, totals, gt_ids, pred_ids, &pair_rows, &pair_cols, &left_rows, p.pairs, p.lefts,
-        p.extra, p.distance,
+        run,
+        totals,
+        gt_ids,
+        pred_ids,
+        &p.pair_rows,
+        &p.pair_cols,
+        &p.left_rows,
+        p.pairs,
+        p.lefts,
+        p.extra,
+        p.distance,
     )
 }
 
-// The update of a state that is sound already, in its lent table: 2, 3, 4, 5, 7 or 0, and the totals. Of soundness it needs the used count alone.
+/// The update of a state that is sound already, in its lent table: 2, 3, 4, 5, 7 or 0, and the totals. Of soundness it needs the used count alone.
 pub fn update_in_place(
     run: &mut [i32],
     totals: Totals,
@@ -41,14 +48,18 @@ pub fn update_in_place(
     ensures { Updated run.old totals gt_ids.now gt_bboxes.now pred_ids.now pred_bboxes.now threshold run.new result }
 {
     let total = totals.total_distance;
-    let h = gt_ids.len();
-    let w = pred_ids.len();
-    let p = pairing::pair(h, gt_bboxes, w, pred_bboxes, threshold, total);
-    if p.number != 0 {
-        return Closed {
-            number: p.number,
-            totals: totals,
-        };
+    match pairing::pair(
+        gt_ids.len(),
+        gt_bboxes,
+        pred_ids.len(),
+        pred_bboxes,
+        threshold,
+        total,
+    ) {
+        Ok(p) => book(run, totals, gt_ids, pred_ids, p),
+        Err(refusal) => Closed {
+            number: refusal.number(),
+            totals,
+        },
     }
-    book(run, totals, gt_ids, pred_ids, p)
 }

@@ -1,10 +1,10 @@
-// Module 4's accumulator for C and Rust: its state is lent as flat numbers, and stays with the caller between updates.
+//! Module 4's accumulator for C and Rust: its state is lent as flat numbers, and stays with the caller between updates.
 #![tactic(auto)]
 
 ghost use Rattle.metrics_in_place.specs.InPlace.{runs_of};
 ghost use Rattle.metrics_flat.specs.Flat.{Answered};
 
-// Module 4's MOTAccumulator: the log as in module 3, the truth ids' three columns of 256, 1,024 hypothesis ids, three used counts.
+/// Module 4's MOTAccumulator: the log as in module 3, the truth ids' three columns of 256, 1,024 hypothesis ids, three used counts.
 #[unsafe(no_mangle)]
 pub extern "C" fn mot_metrics_update(
     numbers: &mut [i32],

@@ -1,5 +1,5 @@
-// The public update of module 4's MOTAccumulator over flat lent numbers, as it goes over the border to C: no enum and no struct crosses.
-// Ported from norfair-rs, metrics/accumulator.rs (NOTICE).
+//! The public update of module 4's MOTAccumulator over flat lent numbers, as it goes over the border to C: no enum and no struct crosses.
+//! Ported from norfair-rs, metrics/accumulator.rs (NOTICE).
 #![tactic(auto)]
 
 ghost use Rattle.std.specs.Prelude.{◌≡◌, true, [], length};
@@ -11,19 +11,14 @@ ghost use Rattle.metrics_flat.specs.Flat.{whole_of, Checked, Answered};
 use metrics_in_place::{Closed, Used};
 
 // Whether a state that is handed in is one that refusal 1 lets by: of the log its used count alone.
+#[tactic(auto, unfolding(metrics::specs::State::sound_state, partners::specs::Partners::ids_sound, seen::specs::Seen::hypotheses_sound))]
 fn sound(table: &[i32], hypotheses: &[i32], used: Used) -> bool
     requires { (length table.now ≡ 768) × (length hypotheses.now ≡ 1024) }
     ensures { result ≡ sound_state (state_of (runs_of [] [] table.now hypotheses.now) used) }
 {
-    if used.events > 1024 {
-        return false;
-    }
-    let truths = used.truths;
-    if !seen::sound_up_to(&table[..256], truths, 256) {
-        return false;
-    }
-    let known = used.hypotheses;
-    seen::sound_up_to(hypotheses, known, 1024)
+    used.events <= 1024
+        && seen::sound_up_to(&table[..256], used.truths, 256)
+        && seen::sound_up_to(hypotheses, used.hypotheses, 1024)
 }
 
 // The update of any runs and used counts: the lowest number that applies, and the used counts.
@@ -44,10 +39,7 @@ fn update_checked(
     ensures { Checked (runs_of numbers.old log_distances.old table.old hypotheses.old) used frame gt_ids.now hyp_ids.now gt_boxes.now hyp_boxes.now iou_threshold (runs_of numbers.new log_distances.new table.new hypotheses.new) result }
 {
     if !sound(&table[..], &hypotheses[..], used) {
-        return Closed {
-            number: 1,
-            used: used,
-        };
+        return Closed { number: 1, used };
     }
     metrics_in_place::update_in_place(
         numbers,
@@ -65,16 +57,11 @@ fn update_checked(
 }
 
 // Whether the lent runs are as long as a state's.
+#[tactic(auto, unfolding(crate::specs::Flat::whole_of))]
 fn whole(numbers: usize, log_distances: usize, table: usize, hypotheses: usize, used: usize) -> bool
     ensures { result ≡ whole_of numbers log_distances table hypotheses used }
 {
-    if !sizes::log_and_table(numbers, log_distances, table) {
-        return false;
-    }
-    if hypotheses != 1024 {
-        return false;
-    }
-    used == 3
+    sizes::log_and_table(numbers, log_distances, table) && hypotheses == 1024 && used == 3
 }
 
 // The update of lent runs that are as long as a state's.
@@ -123,7 +110,7 @@ fn update_whole(
     0
 }
 
-// The update of any lent state by any frame: the lowest number that applies. Beside a refusal every lent number stays.
+/// The update of any lent state by any frame: the lowest number that applies. Beside a refusal every lent number stays.
 pub fn update(
     numbers: &mut [i32],
     log_distances: &mut [f64],

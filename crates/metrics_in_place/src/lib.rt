@@ -1,6 +1,6 @@
-// The inner update of the public module's accumulator in place: the state is four lent runs of numbers, and none is copied. Playback
-// and the border to C call it.
-// Ported from norfair-rs, metrics/accumulator.rs (NOTICE).
+//! The inner update of the public module's accumulator in place: the state is four lent runs of numbers, and none is copied. Playback
+//! and the border to C call it.
+//! Ported from norfair-rs, metrics/accumulator.rs (NOTICE).
 #![tactic(auto)]
 
 ghost use Rattle.std.specs.Prelude.{◌≡◌, ◌*◌, ◌≤◌, length};
@@ -11,7 +11,7 @@ ghost use Rattle.metrics_in_place.specs.InPlace.{runs_of, Within, Booked, Booked
 
 use greedy::Pairing;
 
-// How many places are used of the log, of the table of the truth ids, and of the hypothesis ids.
+/// How many places are used of the log, of the table of the truth ids, and of the hypothesis ids.
 #[derive(Clone, Copy)]
 pub struct Used {
     pub events: usize,
@@ -19,7 +19,7 @@ pub struct Used {
     pub hypotheses: usize,
 }
 
-// The number of an update, and the used counts: beside a refusal those that came.
+/// The number of an update, and the used counts: beside a refusal those that came.
 #[derive(Clone, Copy)]
 pub struct Closed {
     pub number: u32,
@@ -50,13 +50,13 @@ fn book(
     if !ids_in_place::truths_fit(&table[..], truths, gt_ids) {
         return Closed {
             number: 5,
-            used: used,
+            used,
         };
     }
     if !ids_in_place::hypotheses_fit(&hypotheses[..], known, hyp_ids) {
         return Closed {
             number: 5,
-            used: used,
+            used,
         };
     }
     let pairs_used = p.used;
@@ -64,7 +64,7 @@ fn book(
     if events + count > 1024 {
         return Closed {
             number: 6,
-            used: used,
+            used,
         };
     }
     let pairs = p.pairs;
@@ -166,8 +166,8 @@ fn book_in(
     )
 }
 
-// The update of a state that is sound already, in its lent runs: 2, 3, 5, 6 or 0, and the used counts. Of soundness it needs those
-// counts alone. (Three sizes of matrix: to clear 4,096 places costs more than all else of a small frame.)
+/// The update of a state that is sound already, in its lent runs: 2, 3, 5, 6 or 0, and the used counts. Of soundness it needs those
+/// counts alone. (Three sizes of matrix: to clear 4,096 places costs more than all else of a small frame.)
 pub fn update_in_place(
     numbers: &mut [i32],
     log_distances: &mut [f64],
@@ -189,8 +189,8 @@ pub fn update_in_place(
     let number = shape::shape_no(rows, gt_boxes.len(), columns, hyp_boxes.len());
     if number != 0 {
         return Closed {
-            number: number,
-            used: used,
+            number,
+            used,
         };
     }
     let n = rows * columns;

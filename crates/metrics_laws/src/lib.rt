@@ -1,2 +1,2 @@
-// No code: what an update of module 4's accumulator means and keeps.
+//! No code: what an update of module 4's accumulator means and keeps.
 #![tactic(auto)]

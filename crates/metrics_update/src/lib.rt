@@ -1,5 +1,5 @@
-// The update of the public module's MOTAccumulator: a frame paired by falling IoU and booked whole, or refused with the state as it came.
-// Ported from norfair-rs, metrics/accumulator.rs (NOTICE).
+//! The update of the public module's MOTAccumulator: a frame paired by falling IoU and booked whole, or refused with the state as it came.
+//! Ported from norfair-rs, metrics/accumulator.rs (NOTICE).
 #![tactic(auto)]
 
 ghost use Rattle.std.specs.Prelude.{◌≡◌, ◌*◌, ◌≤◌, length};
@@ -25,7 +25,7 @@ fn book_shares(
     book(s, frame, gt_ids, hyp_ids, &shares[..], p)
 }
 
-// The update of a state that is sound already: nothing of its tables is tested again. Of soundness it needs the used counts alone.
+/// The update of a state that is sound already: nothing of its tables is tested again. Of soundness it needs the used counts alone.
 pub fn update_sound(
     s: MOTAccumulator,
     frame: i32,
@@ -43,7 +43,7 @@ pub fn update_sound(
     let number = shape::shape_no(rows, gt_boxes.len(), columns, hyp_boxes.len());
     if number != 0 {
         return Updated {
-            number: number,
+            number,
             state: s,
         };
     }
@@ -53,7 +53,7 @@ pub fn update_sound(
     book_shares(s, frame, gt_ids, hyp_ids, &mut m[..n], iou_threshold)
 }
 
-// The update of any state by any frame: the lowest number that applies, and the state.
+/// The update of any state by any frame: the lowest number that applies, and the state.
 pub fn update(
     s: MOTAccumulator,
     frame: i32,

@@ -1,10 +1,10 @@
-// Module 3's accumulator for C and Rust: its state is lent as flat numbers, and stays with the caller between updates.
+//! Module 3's accumulator for C and Rust: its state is lent as flat numbers, and stays with the caller between updates.
 #![tactic(auto)]
 
 ghost use Rattle.motmetrics_in_place.specs.Updated.{runs_of};
 ghost use Rattle.motmetrics_flat.specs.Flat.{Answered};
 
-// Module 3's MOTAccumulator: a log's four columns of 1,024 numbers and its 1,024 distances, a table's three columns of 256, two used counts.
+/// Module 3's MOTAccumulator: a log's four columns of 1,024 numbers and its 1,024 distances, a table's three columns of 256, two used counts.
 #[unsafe(no_mangle)]
 pub extern "C" fn mot_motmetrics_update(
     numbers: &mut [i32],

@@ -1,5 +1,5 @@
-// The public update of module 3's MOTAccumulator over flat lent numbers, as it goes over the border to C: no enum and no struct crosses.
-// Ported from norfair-rs, internal/motmetrics/accumulator.rs, which follows py-motmetrics (NOTICE).
+//! The public update of module 3's MOTAccumulator over flat lent numbers, as it goes over the border to C: no enum and no struct crosses.
+//! Ported from norfair-rs, internal/motmetrics/accumulator.rs, which follows py-motmetrics (NOTICE).
 #![tactic(auto)]
 
 ghost use Rattle.std.specs.Prelude.{◌≡◌, true, [], length};
@@ -11,15 +11,12 @@ ghost use Rattle.motmetrics_flat.specs.Flat.{whole_of, Checked, Answered};
 use motmetrics_in_place::{Closed, Used};
 
 // Whether a state that is handed in is one that refusal 1 lets by: of the log its used count alone.
+#[tactic(auto, unfolding(motmetrics::specs::State::sound_state, partners::specs::Partners::ids_sound))]
 fn sound(table: &[i32], used: Used) -> bool
     requires { length table.now ≡ 768 }
     ensures { result ≡ sound_state (state_of (runs_of [] [] table.now) used) }
 {
-    if used.events > 1024 {
-        return false;
-    }
-    let truths = used.truths;
-    seen::sound_up_to(&table[..256], truths, 256)
+    used.events <= 1024 && seen::sound_up_to(&table[..256], used.truths, 256)
 }
 
 // The update of any runs and used counts: the lowest number that applies, and the used counts.
@@ -37,10 +34,7 @@ fn update_checked(
     ensures { Checked (runs_of numbers.old log_distances.old table.old) used frame_id object_ids.now hypothesis_ids.now distances.now (runs_of numbers.new log_distances.new table.new) result }
 {
     if !sound(&table[..], used) {
-        return Closed {
-            number: 1,
-            used: used,
-        };
+        return Closed { number: 1, used };
     }
     motmetrics_in_place::update_in_place(
         numbers,
@@ -55,13 +49,11 @@ fn update_checked(
 }
 
 // Whether the lent runs are as long as a state's.
+#[tactic(auto, unfolding(crate::specs::Flat::whole_of))]
 fn whole(numbers: usize, log_distances: usize, table: usize, used: usize) -> bool
     ensures { result ≡ whole_of numbers log_distances table used }
 {
-    if !sizes::log_and_table(numbers, log_distances, table) {
-        return false;
-    }
-    used == 2
+    sizes::log_and_table(numbers, log_distances, table) && used == 2
 }
 
 // The update of lent runs that are as long as a state's.
@@ -102,7 +94,7 @@ fn update_whole(
     0
 }
 
-// The update of any lent state by any frame: the lowest number that applies. Beside a refusal every lent number stays.
+/// The update of any lent state by any frame: the lowest number that applies. Beside a refusal every lent number stays.
 pub fn update(
     numbers: &mut [i32],
     log_distances: &mut [f64],

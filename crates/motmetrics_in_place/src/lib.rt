@@ -1,6 +1,6 @@
-// The inner update of module 3's MOTAccumulator in place: its log and its table are lent as columns of numbers, and no state is copied.
-// Playback and the border to C call it.
-// Ported from norfair-rs, internal/motmetrics/accumulator.rs, which follows py-motmetrics (NOTICE).
+//! The inner update of module 3's MOTAccumulator in place: its log and its table are lent as columns of numbers, and no state is copied.
+//! Playback and the border to C call it.
+//! Ported from norfair-rs, internal/motmetrics/accumulator.rs, which follows py-motmetrics (NOTICE).
 #![tactic(auto)]
 
 ghost use Rattle.std.specs.Prelude.{◌≡◌, ◌*◌, ◌≤◌, length};
@@ -9,14 +9,14 @@ ghost use Rattle.motmetrics_in_place.specs.Updated.{runs_of, Within, Framed, Upd
 
 use greedy::Pairing;
 
-// How many places of the log and of the table are used.
+/// How many places of the log and of the table are used.
 #[derive(Clone, Copy)]
 pub struct Used {
     pub events: usize,
     pub truths: usize,
 }
 
-// The number of a frame, and the used counts: beside a refusal those that came.
+/// The number of a frame, and the used counts: beside a refusal those that came.
 #[derive(Clone, Copy)]
 pub struct Closed {
     pub number: u32,
@@ -47,14 +47,14 @@ fn book(
     if !ids_in_place::matches_fit(&table[..], truths, &pairs[..n], object_ids, hypothesis_ids) {
         return Closed {
             number: 5,
-            used: used,
+            used,
         };
     }
     let count = object_ids.len() + hypothesis_ids.len() - n;
     if events + count > 1024 {
         return Closed {
             number: 6,
-            used: used,
+            used,
         };
     }
     let matched = truths_in_place::book_matches(
@@ -85,8 +85,8 @@ fn book(
     }
 }
 
-// The update of a state that is sound already, in its lent runs: 2, 3, 5, 6 or 0, and the used counts. Of soundness it needs these
-// counts alone.
+/// The update of a state that is sound already, in its lent runs: 2, 3, 5, 6 or 0, and the used counts. Of soundness it needs these
+/// counts alone.
 pub fn update_in_place(
     numbers: &mut [i32],
     log_distances: &mut [f64],
@@ -105,8 +105,8 @@ pub fn update_in_place(
     let number = sizes::shape_no(rows, columns, distances.len());
     if number != 0 {
         return Closed {
-            number: number,
-            used: used,
+            number,
+            used,
         };
     }
     let p = greedy_pairs::pair_by_distance(distances, rows, columns);

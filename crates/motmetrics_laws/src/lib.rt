@@ -1,2 +1,2 @@
-// No code: what an update of module 3's accumulator of events means and keeps.
+//! No code: what an update of module 3's accumulator of events means and keeps.
 #![tactic(auto)]

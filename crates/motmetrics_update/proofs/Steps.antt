@@ -1,5 +1,5 @@
 -- The steps of the update, by the number that they answer. Assumes nothing.
-use mathlib.Core.Path.{◌≡◌, refl, sym, ◌∙◌}
+use mathlib.Core.Path.{◌≡◌, refl, sym, ap, subst, ◌∙◌}
 use mathlib.Core.Bool.{true, false}
 use mathlib.Core.List.{List}
 use Prim.Native.Nat.{ℕ, ◌+◌, ◌-◌, ◌<◌, ◌≤◌}
@@ -7,6 +7,12 @@ use borrow.Author.Tests.{lt-ltb, le-ltb, ne_eqb}
 use lib.IntN.{ℤ}
 use lib.ListN.{length}
 use lib.Ieee.{Float}
+use native.Mathlib.Omega.{arith}
+use Rattle.std.specs.Prelude.{Result, Ok, Err}
+use Rattle.std.specs.Result.{IsErrAnd}
+use Rattle.refusals.specs.declared.Refusal.{Refusal}
+use Rattle.refusals.specs.declared.Refusal.TheVariants.{Unsound, TooMany, Misfit, EmptyBox, FullTable, NoRoom, Overflow}
+use Rattle.refusals.specs.Refusals.{number_of}
 use Rattle.sizes.specs.Sizes.{shape_no}
 use Rattle.sizes.proofs.Shape.{Shaped, well_shaped}
 use Rattle.events.specs.declared.Log.{Log}
@@ -21,7 +27,7 @@ use Rattle.motmetrics.specs.declared.MOTAccumulator.{MOTAccumulator}
 use Rattle.motmetrics.specs.State.{sound_state}
 use Rattle.motmetrics.proofs.Sound.{log_few, table_sound}
 use Rattle.motmetrics_update.specs.declared.Updated.{Updated}
-use Rattle.motmetrics_update.specs.Update.{refused_at, matched_by, book_of, frame_after, update_of}
+use Rattle.motmetrics_update.specs.Update.{refused_at, updated, matched_by, book_of, frame_after, update_of}
 
 -- ---- the booking
 module _ (s : MOTAccumulator) (frame : ℤ) (objects hypotheses : List ℤ) (distances : List Float) (p : Pairing) (f : Fitting (length objects) (length hypotheses) p)
@@ -43,6 +49,21 @@ module _ (s : MOTAccumulator) (frame : ℤ) (objects hypotheses : List ℤ) (dis
   unfolding book_of
   all_booked log e h el = rw (el, ← eb, e, count_is, le-ltb 1024 (s.log.used + (length objects + length hypotheses - p.used)) h) refl
 
+-- no reason has the number 0
+pub some_number : (r : Refusal) → number_of r ≡ 0 → ⊥
+some_number Unsound h = omega arith
+some_number TooMany h = omega arith
+some_number Misfit h = omega arith
+some_number EmptyBox h = omega arith
+some_number FullTable h = omega arith
+some_number NoRoom h = omega arith
+some_number Overflow h = omega arith
+
+-- an update that passes on a refusal
+pub passed_on : (s : MOTAccumulator) (r : Result MOTAccumulator Refusal) (e : Refusal) → IsErrAnd r (λ (x : Refusal). x ≡ e) → updated s r ≡ refused_at (number_of e) s
+passed_on s (Ok next) e h = absurd h
+passed_on s (Err x) e h = ap (λ (z : Refusal). refused_at (number_of z) s) h
+
 -- ---- the frame
 module _ (s : MOTAccumulator) (frame : ℤ) (objects hypotheses : List ℤ) (distances : List Float) where
   abbrev number : ℕ
@@ -61,6 +82,14 @@ module _ (s : MOTAccumulator) (frame : ℤ) (objects hypotheses : List ℤ) (dis
 
   pub pairing_fits : Shaped (length objects) (length hypotheses) (length distances) → Fitting (length objects) (length hypotheses) (by_distance distances (length hypotheses))
   pairing_fits f = distance_fits distances (length objects) (length hypotheses) f.few_rows f.few_columns f.whole
+
+  -- what is booked of its pairing is the frame's
+  module _ (q : 0 ≡ number) (p : Pairing) (e : p ≡ by_distance distances (length hypotheses)) where
+    pub fits : Fitting (length objects) (length hypotheses) p
+    fits = subst (Fitting (length objects) (length hypotheses)) (sym e) (pairing_fits (shape 0 q refl))
+
+    pub books : book_of s frame objects hypotheses distances p ≡ frame_after s frame objects hypotheses distances
+    books = ap (book_of s frame objects hypotheses distances) e ∙ paired 0 q refl
 
   pub unsound : sound_state s ≡ false → refused_at 1 s ≡ update_of s frame objects hypotheses distances
   unfolding update_of

@@ -1,5 +1,7 @@
 -- Document 01, "Lifecycles and events" and "Numbers given back": the update of module 3's MOTAccumulator, from any state and any frame.
-use Rattle.std.specs.Prelude.{cond, List, ℕ, ◌+◌, eqb, ltb, ℤ, length, take, Float}
+use Rattle.std.specs.Prelude.{cond, Result, Ok, Err, List, ℕ, ◌+◌, eqb, ltb, ℤ, length, take, Float}
+use Rattle.refusals.specs.declared.Refusal.{Refusal}
+use Rattle.refusals.specs.Refusals.{number_of}
 use Rattle.sizes.specs.Sizes.{shape_no}
 use Rattle.events.specs.declared.Event.{Event}
 use Rattle.partners.specs.Partners.{Booked}
@@ -17,6 +19,11 @@ refused_at number s = record { number = number; state = s }
 
 abbrev pub closed_at : ℕ → MOTAccumulator → MOTAccumulator → Updated
 closed_at number s next = record { number = number; state = cond (eqb number 0) next s }
+
+-- an answer, read as what a call gives
+abbrev pub updated : MOTAccumulator → Result MOTAccumulator Refusal → Updated
+updated s (Ok next) = record { number = 0; state = next }
+updated s (Err r) = refused_at (number_of r) s
 
 -- ---- a pairing, booked
 -- its pairs against the table of last matches, in their order

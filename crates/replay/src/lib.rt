@@ -1,4 +1,4 @@
-// A frame handed to both accumulators: booked by both, or by neither.
+//! A frame handed to both accumulators: booked by both, or by neither.
 #![tactic(auto)]
 
 ghost use Rattle.std.specs.Prelude.{◌≡◌, ◌-◌, nat_abs};
@@ -9,14 +9,14 @@ use rows::ExtendedMOTAccumulator;
 use summary::Row;
 use wholes::size;
 
-// The accumulators that a scene is scored by: the extended one, and module 4's.
+/// The accumulators that a scene is scored by: the extended one, and module 4's.
 #[derive(Clone, Copy)]
 pub struct Both {
     pub extended: ExtendedMOTAccumulator,
     pub metrics: MOTAccumulator,
 }
 
-// The numbers that both gave, the frame's row, and the states: beside a refusal a row of zeros and the states that came.
+/// The numbers that both gave, the frame's row, and the states: beside a refusal a row of zeros and the states that came.
 #[derive(Clone, Copy)]
 pub struct Step {
     pub extended_number: u32,
@@ -57,14 +57,14 @@ fn refused(b: Both, extended_number: u32, metrics_number: u32) -> Step
         switches: 0,
     };
     Step {
-        extended_number: extended_number,
-        metrics_number: metrics_number,
+        extended_number,
+        metrics_number,
         row: nothing,
         both: b,
     }
 }
 
-// A frame of this number, from 1. A pair is one at a distance of at most a half, and so at an IoU of at least a half.
+/// A frame of this number, from 1. A pair is one at a distance of at most a half, and so at an IoU of at least a half.
 pub fn play_frame(
     b: Both,
     frame: i32,
@@ -89,10 +89,10 @@ pub fn play_frame(
     Step {
         extended_number: 0,
         metrics_number: 0,
-        row: row,
+        row,
         both: Both {
-            extended: extended,
-            metrics: metrics,
+            extended,
+            metrics,
         },
     }
 }
