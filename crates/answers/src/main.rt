@@ -1,127 +1,66 @@
-// The port's side of the comparison: a request a line in, an answer a line out (oracle/PROTOCOL.md).
+//! The port's side of the comparison: a request a line in, an answer a line out (oracle/PROTOCOL.md).
 #![tactic(auto)]
 
-use lines::session::{Reply, Session};
-use lines::{input, output, session};
+use lines::session::Session;
 
-// The requests of the accumulators of events; where none has the name, the line says none.
-fn answer_events(
-    name: &[u8],
-    from: &mut [u8; 65536],
-    to: &mut [u8; 65536],
-    a: &mut [f64],
-    b: &mut [f64],
-    s: Session,
-) -> Session {
-    if let Reply::Given(t) = mot_requests::answer(name, from, to, a, s) {
-        return t;
+/// No more lines than these are answered.
+const MOST_LINES: u64 = 0x100_0000_0000;
+
+// None where no request has the name, or the line does not say what it needs.
+fn answer(name: &[u8], s: &mut Session) -> Option<()> {
+    match name {
+        b"min" => float_requests::min(s),
+        b"max" => float_requests::max(s),
+        b"abs" => float_requests::abs(s),
+        b"is_finite" => float_requests::is_finite(s),
+        b"is_zero" => float_requests::is_zero(s),
+        b"iou_distance" => box_requests::iou_distance(s),
+        b"iou_share" => box_requests::iou_share(s),
+        b"compute_iou_distance_matrix" => box_requests::compute_iou_distance_matrix(s),
+        b"iou_matrix" => box_requests::iou_matrix(s),
+        b"linear_sum_assignment" => search_requests::linear_sum_assignment(s),
+        b"lifecycle_new" => lifecycle_requests::lifecycle_new(s),
+        b"update_matched" => lifecycle_requests::update_matched(s),
+        b"update_missed" => lifecycle_requests::update_missed(s),
+        b"coverage" => lifecycle_requests::coverage(s),
+        b"extended" => extended_requests::extended(s),
+        b"mot" => mot_requests::mot(s),
+        b"metrics" => metric_requests::metrics(s),
+        _ => None,
     }
-    if let Reply::Given(t) = metric_requests::answer(name, from, to, a, b, s) {
-        return t;
-    }
-    session::unknown(from, to, s)
 }
 
-// The requests of lifecycles and of the accumulators.
-fn answer_frames(
-    name: &[u8],
-    from: &mut [u8; 65536],
-    to: &mut [u8; 65536],
-    a: &mut [f64],
-    b: &mut [f64],
-    s: Session,
-) -> Session {
-    if let Reply::Given(t) = lifecycle_requests::answer(name, from, to, s) {
-        return t;
-    }
-    if let Reply::Given(t) = extended_requests::answer(name, from, to, a, b, s) {
-        return t;
-    }
-    answer_events(name, from, to, a, b, s)
-}
-
-// Each crate of requests answers those that it knows.
-fn answer(
-    name: &[u8],
-    from: &mut [u8; 65536],
-    to: &mut [u8; 65536],
-    a: &mut [f64],
-    b: &mut [f64],
-    c: &mut [f64],
-    s: Session,
-) -> Session {
-    if let Reply::Given(t) = float_requests::answer(name, from, to, s) {
-        return t;
-    }
-    if let Reply::Given(t) = box_requests::answer(name, from, to, a, b, c, s) {
-        return t;
-    }
-    if let Reply::Given(t) = search_requests::answer(name, from, to, a, s) {
-        return t;
-    }
-    answer_frames(name, from, to, a, b, s)
-}
-
-fn answer_line(
-    from: &mut [u8; 65536],
-    to: &mut [u8; 65536],
-    a: &mut [f64],
-    b: &mut [f64],
-    c: &mut [f64],
-    s: Session,
-) -> Session {
+fn answer_request(s: &mut Session) -> Option<()> {
     let mut letters = [0u8; 64];
-    let fresh = input::marked(s.reader, false);
-    let w = input::first_word(from, fresh, &mut letters);
-    let n = w.len;
-    let reader = w.reader;
-    let writer = s.writer;
-    answer(&letters[..n], from, to, a, b, c, Session { reader, writer })
+    let n = s.reader.first_word(&mut letters)?;
+    answer(&letters[..n], s)
+}
+
+// An empty line's answer is an empty line.
+fn answer_line(s: &mut Session) -> Option<()> {
+    if s.reader.end_line().is_some() {
+        return Some(());
+    }
+    answer_request(s)
 }
 
 // One line, if there is one. What came before the input's end is answered.
-fn turn(
-    from: &mut [u8; 65536],
-    to: &mut [u8; 65536],
-    a: &mut [f64],
-    b: &mut [f64],
-    c: &mut [f64],
-    s: Session,
-) -> Session {
-    let p = input::peek(from, s.reader);
-    let reader = p.reader;
-    let writer = s.writer;
-    if reader.over {
-        return Session { reader, writer };
+fn turn(s: &mut Session) {
+    s.reader.peek();
+    if s.reader.over {
+        return;
     }
-    if p.byte == b'\n' {
-        return session::ended(to, input::passed(reader), writer);
-    }
-    answer_line(from, to, a, b, c, Session { reader, writer })
-}
-
-fn answer_all(
-    rt: &HostRuntime,
-    from: &mut [u8; 65536],
-    to: &mut [u8; 65536],
-    a: &mut [f64],
-    b: &mut [f64],
-    c: &mut [f64],
-) {
-    let mut s = session::start(rt);
-    let mut turns: u64 = 0x100_0000_0000;
-    while turns > 0 && session::goes_on(s) {
-        s = turn(from, to, a, b, c, s);
-        turns -= 1;
-    }
-    output::flush(to, s.writer);
+    let answered = answer_line(s);
+    s.end_answer(answered);
 }
 
 fn main(rt: HostRuntime) {
-    let mut from = io::large_buffer();
-    let mut to = io::large_buffer();
-    let mut a = [0.0; 8192];
-    let mut b = [0.0; 8192];
-    let mut c = [0.0; 8192];
-    answer_all(&rt, &mut from, &mut to, &mut a, &mut b, &mut c);
+    let mut s = Session::new(&rt);
+    for _ in 0..MOST_LINES {
+        if !s.goes_on() {
+            break;
+        }
+        turn(&mut s);
+    }
+    s.writer.flush();
 }
