@@ -5,7 +5,6 @@ ghost use Rattle.std.specs.Prelude.{◌≤◌, length};
 
 use boxes::Box;
 use float_bits::computed;
-use iou::Distance;
 use lines::input::{LONGEST_RUN, Reader};
 use lines::output::Writer;
 use lines::session::Session;
@@ -29,10 +28,10 @@ fn box_pair(reader: &mut Reader) -> Option<(Box, Box)> {
 pub fn iou_distance(s: &mut Session) -> Option<()> {
     let (a, b) = box_pair(&mut s.reader)?;
     let (number, x) = match iou::iou_distance(a, b) {
-        Distance::Refused => (4, 0.0),
-        Distance::Value(x) => (0, x),
+        Ok(x) => (0, x),
+        Err(refusal) => (refusal.number(), 0.0),
     };
-    s.writer.decimal(number);
+    s.writer.decimal(u64::from(number));
     s.writer.next_float(computed(x));
     Some(())
 }

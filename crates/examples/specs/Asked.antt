@@ -1,8 +1,8 @@
 -- What an example gives and what it says, over all modules: a question and an answer are sums of the modules' own, and `answer_of` puts a
 -- question to the definitions that the public calls promise. Definitions only.
-use Rattle.std.specs.Prelude.{ℕ, List, [], ◌∷◌, ℤ, Float}
+use Rattle.std.specs.Prelude.{ℕ, List, [], ◌∷◌, ℤ, Float, Result}
 use Rattle.boxes.specs.declared.Box.{Box}
-use Rattle.iou.specs.declared.Distance.{Distance}
+use Rattle.refusals.specs.declared.Refusal.{Refusal}
 use Rattle.iou.specs.Boxes.{iou_distance_of}
 use Rattle.optimize.specs.declared.AssignmentResult.{AssignmentResult}
 use Rattle.solver.specs.Solution.{solution_of}
@@ -39,7 +39,7 @@ pub data Question : Type 0 where
 
 -- numbers first
 pub data Answer : Type 0 where
-  distance : Distance → Answer
+  distance : Result Float Refusal → Answer
   assigned : AssignmentResult → Answer
   -- both updates' numbers, the fragmentations
   broken : ℕ → ℕ → ℤ → Answer

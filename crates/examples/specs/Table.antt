@@ -1,11 +1,11 @@
 -- Document 01, "Sixteen marked examples": each stands here, once, under its number. What 01 leaves open is open here too (`Open`).
 -- Definitions only.
-use Rattle.std.specs.Prelude.{ℕ, Bool, false, List, [], ◌∷◌, ℤ, pos, negsuc, replicate, Float}
+use Rattle.std.specs.Prelude.{ℕ, Bool, false, List, [], ◌∷◌, ℤ, pos, negsuc, replicate, Float, Ok, Err}
 use Rattle.std.specs.Float.{binary64, fin, nan}
 use Rattle.std.specs.Float.Ieee.{sub, div}
 use Rattle.floats.specs.Float.{zero64, one64}
 use Rattle.boxes.specs.declared.Box.{Box}
-use Rattle.iou.specs.declared.Distance.TheVariants.{Refused, Value}
+use Rattle.refusals.specs.declared.Refusal.TheVariants.{EmptyBox}
 use Rattle.optimize.specs.Answer.{empty_of}
 use Rattle.lifecycle.specs.declared.TrackLifecycle.{TrackLifecycle}
 use Rattle.lifecycle_parts.specs.declared.Class.TheVariants.{MostlyTracked, PartiallyTracked}
@@ -85,10 +85,10 @@ event w = record { frame = pos 1; what = w }
 -- THE TABLE
 abbrev pub table : Open → List Row
 table o =
-    row 1 (boxes (box 0 0 2 2) (box 1 1 3 3)) (distance (Value (sub binary64 one64 (div binary64 one64 (whole 7)))))
-    ∷ row 2 (boxes (box 0 0 2 2) (box 0 0 2 2)) (distance (Value zero64))
-    ∷ row 3 (boxes (box 0 0 1 1) (box 1 0 2 1)) (distance (Value one64))
-    ∷ row 4 (boxes (box 0 0 0 1) o.other) (distance Refused)
+    row 1 (boxes (box 0 0 2 2) (box 1 1 3 3)) (distance (Ok (sub binary64 one64 (div binary64 one64 (whole 7)))))
+    ∷ row 2 (boxes (box 0 0 2 2) (box 0 0 2 2)) (distance (Ok zero64))
+    ∷ row 3 (boxes (box 0 0 1 1) (box 1 0 2 1)) (distance (Ok one64))
+    ∷ row 4 (boxes (box 0 0 0 1) o.other) (distance (Err EmptyBox))
     ∷ row 5 (matrix fours 2 2 (whole 3)) (assigned (shown (pair 1 0 ∷ []) (0 ∷ []) (1 ∷ []) 0 1))
     ∷ row 6 (matrix nines 3 3 (whole 9)) (assigned (shown (pair 0 2 ∷ pair 1 1 ∷ pair 2 0 ∷ []) [] [] 1 2))
     ∷ row 7 (matrix nines 3 3 (whole 3)) (assigned (shown (pair 0 2 ∷ pair 2 0 ∷ []) (1 ∷ []) (1 ∷ []) 1 2))
