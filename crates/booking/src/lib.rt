@@ -27,13 +27,7 @@ pub fn left_of(marks: &[bool; 64], n: usize) -> [usize; 64]
     ensures { result ≡ filled 0 (left_of n marks.now) }
 {
     let mut left = [0; 64];
-    let mut used: usize = 0;
-    for (i, gone) in marks[..n].iter().enumerate() {
-        if !*gone {
-            left[used] = i;
-            used += 1;
-        }
-    }
+    square::pick(marks, n, false, &mut left);
     left
 }
 

@@ -11,7 +11,7 @@ ghost use Rattle.square.specs.Square.{line};
 ghost use Rattle.corrections.specs.Correction.{least_over, useful_of, shift_of};
 ghost use Rattle.corrections.specs.Inner.{Columns, least_in, Listed, Hot};
 
-/// The first place from `from` on whose listed column has an entry smaller than m, or the number of listed columns.
+/// The first place from `from` on whose listed column has an entry below m, or the number of listed columns.
 fn next_below(line: &[f64], columns: &[usize], from: usize, m: f64) -> usize
     requires { All (λ j. j < length line.now) columns.now × (length columns.now ≤ 64) × (length line.now ≡ 64) × (from ≤ length columns.now) }
     ensures { (from ≤ result) × (result ≤ length columns.now) × (least_in line.now (drop from columns.now) m ≡ least_in line.now (drop result columns.now) m)
@@ -45,6 +45,7 @@ fn least_row(line: &[f64], columns: &[usize], least: f64) -> f64
 }
 
 /// The minimum over the marked rows and the listed columns, which are those outside some C.
+// Kept: an array with a used count, since the clauses of `least_over` and `shift` may not change.
 pub fn least_over(c: &[f64], n: usize, rs: &[bool; 64], columns: &[usize; 64], used: usize) -> f64
     requires { (n ≤ 64) × (n * 64 ≤ length c.now) × Columns columns.now used }
     ensures { (C : List Bool) → Picked false C n columns.now used → result ≡ least_over c.now n rs.now C }

@@ -26,6 +26,7 @@ pub fn min(x: f64, y: f64) -> f64
 }
 
 /// Neither a NaN nor an infinity.
+// Kept: one operator, since the definition `is_finite` may not change and wrong versions of it are tried (must-fail/).
 #[tactic(auto, using(crate::proofs::Tests::finite_same))]
 pub fn is_finite(x: f64) -> bool
     ensures { result ≡ is_finite x }

@@ -100,6 +100,7 @@ pub fn write_shares(boxes_a: &[f64], boxes_b: &[f64], out: &mut [f64]) -> Result
 }
 
 /// `write_distances`, with the refusal as its number, and 0 where nothing is refused.
+// Kept: the C interface, which answers by the number.
 pub fn compute_iou_distance_matrix(gt_bboxes: &[f64], pred_bboxes: &[f64], out: &mut [f64]) -> u32
     ensures number { result ≡ distance_matrix_no gt_bboxes.now pred_bboxes.now (length out.old) }
     ensures written { out.new ≡ matrix_after Measure.Away result gt_bboxes.now pred_bboxes.now out.old }
@@ -108,6 +109,7 @@ pub fn compute_iou_distance_matrix(gt_bboxes: &[f64], pred_bboxes: &[f64], out: 
 }
 
 /// `write_shares`, with the refusal as its number, and 0 where nothing is refused.
+// Kept: the C interface, which answers by the number.
 pub fn iou_matrix(boxes_a: &[f64], boxes_b: &[f64], out: &mut [f64]) -> u32
     ensures number { result ≡ iou_matrix_no boxes_a.now boxes_b.now (length out.old) }
     ensures written { out.new ≡ matrix_after Measure.Shared result boxes_a.now boxes_b.now out.old }

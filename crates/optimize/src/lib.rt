@@ -23,7 +23,7 @@ const NO_PAIR: Assignment = Assignment {
 };
 
 /// What a search came to: the pairs that pass, the rows and columns in none, and how many corrections and paths it took.
-// Kept: a refusal is a number beside the state at each public call, for C callers too.
+// Kept: a refusal is a number beside the answer at each public call, for C callers too.
 #[derive(Clone, Copy)]
 pub struct AssignmentResult {
     pub number: u32,

@@ -1,5 +1,6 @@
 //! Step E of the search: a path from a free row to a free column, and its flip.
 //! The square lies at stride 64; in the tables n or more is no partner; in `from`, 64 is no place.
+// Kept: n or more for no partner and 64 for no place, as `Flips`, `bfs_of` and `Run` have them, which may not change.
 #![tactic(auto)]
 
 ghost use Rattle.std.specs.Prelude.{◌≡◌, ◌*◌, ◌≤◌, length, get_or, replicate};

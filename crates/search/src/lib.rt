@@ -107,6 +107,7 @@ fn correct(c: &mut [f64], n: usize, cols: &[usize; 64], reached: &mut Reached) -
     ensures { (rows : List ℕ) → Marked n c.old rows cols.now reached.old.rows reached.old.cols → Corrected result.stuck n result.times c.old rows cols.now c.new }
 {
     let mut times = 0usize;
+    // Kept: a `loop`, since a turn may end it at two places within; no range or iterator says that.
     loop {
         let mut outside = [0usize; 64];
         let aways = square::pick(&reached.cols, n, false, &mut outside);
