@@ -49,6 +49,7 @@ pub fn log_and_table(numbers: usize, distances: usize, table: usize) -> bool
 }
 
 /// The number for a lent state of another length, where the frame's own lengths have the number `shape`.
+// Kept: the C interface; the calls over lent runs answer by the number.
 #[tactic(auto, unfolding(crate::specs::Sizes::lengths_no))]
 pub fn lengths_no(shape: u32) -> u32
     ensures { result ≡ lengths_no shape }
