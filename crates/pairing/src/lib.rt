@@ -1,4 +1,4 @@
-// How a frame's truth boxes are paired with its predictions, or why it is refused: too many of them, lengths that do not fit, a bad box.
+// How a frame's truth boxes are paired with its predictions, or why it is refused: too many of them, a misfit, a bad box.
 // Ported from norfair-rs, internal/motmetrics/accumulator.rs, which follows py-motmetrics (NOTICE).
 #![tactic(auto)]
 
@@ -28,7 +28,7 @@ fn indices(assignments: [Assignment; 64]) -> ([usize; 64], [usize; 64])
 {
     let mut rows = [0; 64];
     let mut cols = [0; 64];
-    // Kept: a range, since two arrays are written; the array's `map` for each was slower, 713 ns a call and not 105.
+    // Kept: tried and slower, by the array's `map`: 713 ns against 105, each with the filling and reading of the lists.
     for k in 0..64 {
         let pair = assignments[k];
         rows[k] = pair.row_idx;
