@@ -90,9 +90,6 @@ pub fn play_frame(
         extended_number: 0,
         metrics_number: 0,
         row,
-        both: Both {
-            extended,
-            metrics,
-        },
+        both: Both { extended, metrics },
     }
 }
