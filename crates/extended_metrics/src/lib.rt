@@ -2,7 +2,7 @@
 //! Ported from norfair-rs, internal/motmetrics/accumulator.rs, which follows py-motmetrics (NOTICE).
 #![tactic(auto)]
 
-ghost use Rattle.std.specs.Prelude.{◌≡◌, true, ◌+◌, ◌*◌, ◌≤◌, pos, take};
+ghost use Rattle.std.specs.Prelude.{◌≡◌, true, ◌+◌, ◌≤◌, take};
 ghost use Rattle.std.specs.Int.Signed.{non_neg};
 ghost use Rattle.slots.specs.Slots.{counts_sound};
 ghost use Rattle.extended_metrics.specs.Metrics.{class_tally, lone_of, tally_of, refused_at, summed_of, metrics_of};

@@ -2,7 +2,7 @@
 #![tactic(auto)]
 
 ghost use Rattle.std.specs.Prelude.{◌≡◌, ◌-◌, nat_abs};
-ghost use Rattle.replay.specs.Replay.{row_of, no_row, refused_at, booked_by, step_of};
+ghost use Rattle.replay.specs.Replay.{row_of, refused_at, step_of};
 
 use metrics::MOTAccumulator;
 use rows::ExtendedMOTAccumulator;

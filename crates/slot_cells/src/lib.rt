@@ -2,7 +2,7 @@
 #![tactic(auto)]
 
 ghost use Rattle.std.specs.Prelude.{◌≡◌};
-ghost use Rattle.slot_cells.specs.Cells.{is_set, flag_of, known_of, partner_id, partner_of, slot_of, cells_of};
+ghost use Rattle.slot_cells.specs.Cells.{partner_of, slot_of, cells_of};
 
 use lifecycle::TrackLifecycle;
 use slots::Slot;

@@ -1,7 +1,7 @@
 //! What a table of scores says of an accumulator: how well all truth is covered so far, and the scores of its totals.
 #![tactic(auto)]
 
-ghost use Rattle.std.specs.Prelude.{◌≡◌, true, ◌≤◌, nat_abs};
+ghost use Rattle.std.specs.Prelude.{◌≡◌, ◌≤◌, nat_abs};
 ghost use Rattle.scores.specs.Scores.{Few};
 ghost use Rattle.summary.specs.Coverage.{Below, covered_of, used_of, share_of, marks_of, running_of};
 ghost use Rattle.summary.specs.Totals.{totals_of, few_of, scores_for, scores_of};
