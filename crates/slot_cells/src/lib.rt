@@ -74,6 +74,7 @@ impl From<Slot> for Cells {
 }
 
 /// The slot that nine numbers stand for.
+// Kept: what may not change is that this public function stands; `Slot::from` is the same.
 pub fn slot_of(cells: Cells) -> Slot
     ensures { result ≡ slot_of cells }
 {

@@ -124,10 +124,11 @@ fn totals(s: ExtendedMOTAccumulator) -> Tally
 {
     let matches = s.num_matches.unsigned_abs();
     let switches = s.num_switches.unsigned_abs();
+    let misses = s.num_misses.unsigned_abs();
     Tally {
         matches: matches.saturating_sub(switches) as usize,
         switches: switches as usize,
-        misses: s.num_misses.unsigned_abs() as usize,
+        misses: misses as usize,
         false_positives: s.num_false_positives.unsigned_abs() as usize,
         truths: s.num_objects.unsigned_abs() as usize,
         distance: s.total_distance,
