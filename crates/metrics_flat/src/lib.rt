@@ -133,8 +133,13 @@ pub fn update(
         hypotheses.len(),
         used.len(),
     ) {
-        let shape = shape::shape_no(gt_ids.len(), gt_boxes.len(), hyp_ids.len(), hyp_boxes.len());
-        return sizes::lengths_no(shape);
+        let shape = shape::check_shape(
+            gt_ids.len(),
+            gt_boxes.len(),
+            hyp_ids.len(),
+            hyp_boxes.len(),
+        );
+        return sizes::wrong_length(shape).number();
     }
     update_whole(
         numbers,
