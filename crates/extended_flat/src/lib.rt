@@ -116,6 +116,7 @@ fn whole(run: usize, counters: usize, distance: usize) -> bool
 }
 
 // The update of lent runs that are as long as a state's.
+// Kept: a number and no Result, as `Closed` and `Answered`, which may not change, have it.
 fn update_whole(
     run: &mut [i32],
     counters: &mut [i32],
@@ -163,13 +164,13 @@ pub fn update(
     ensures { Answered run.old counters.old distance.old gt_ids.now gt_bboxes.now pred_ids.now pred_bboxes.now threshold run.new counters.new distance.new result }
 {
     if !whole(run.len(), counters.len(), distance.len()) {
-        let shape = shape::shape_no(
+        let shape = shape::check_shape(
             gt_ids.len(),
             gt_bboxes.len(),
             pred_ids.len(),
             pred_bboxes.len(),
         );
-        return sizes::lengths_no(shape);
+        return sizes::wrong_length(shape).number();
     }
     update_whole(
         run,

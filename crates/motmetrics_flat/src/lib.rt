@@ -57,6 +57,7 @@ fn whole(numbers: usize, log_distances: usize, table: usize, used: usize) -> boo
 }
 
 // The update of lent runs that are as long as a state's.
+// Kept: a number and no Result, as `Closed` and `Answered`, which may not change, have it.
 fn update_whole(
     numbers: &mut [i32],
     log_distances: &mut [f64],
@@ -108,8 +109,8 @@ pub fn update(
     ensures { Answered (runs_of numbers.old log_distances.old table.old) used.old frame_id object_ids.now hypothesis_ids.now distances.now (runs_of numbers.new log_distances.new table.new) used.new result }
 {
     if !whole(numbers.len(), log_distances.len(), table.len(), used.len()) {
-        let shape = sizes::shape_no(object_ids.len(), hypothesis_ids.len(), distances.len());
-        return sizes::lengths_no(shape);
+        let shape = sizes::check_frame(object_ids.len(), hypothesis_ids.len(), distances.len());
+        return sizes::wrong_length(shape).number();
     }
     update_whole(
         numbers,
