@@ -163,13 +163,13 @@ pub fn update(
     ensures { Answered run.old counters.old distance.old gt_ids.now gt_bboxes.now pred_ids.now pred_bboxes.now threshold run.new counters.new distance.new result }
 {
     if !whole(run.len(), counters.len(), distance.len()) {
-        let shape = shape::shape_no(
+        let shape = shape::check_shape(
             gt_ids.len(),
             gt_bboxes.len(),
             pred_ids.len(),
             pred_bboxes.len(),
         );
-        return sizes::lengths_no(shape);
+        return sizes::wrong_length(shape).number();
     }
     update_whole(
         run,

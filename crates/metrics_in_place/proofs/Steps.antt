@@ -1,5 +1,5 @@
 -- The steps of the update in place, by the number that they answer. Assumes nothing.
-use mathlib.Core.Path.{◌≡◌, refl, sym, ap, ◌∙◌}
+use mathlib.Core.Path.{◌≡◌, refl, sym, ap, ◌∙◌, subst}
 use mathlib.Core.Bool.{true, false}
 use mathlib.Core.List.{List}
 use Prim.Native.Nat.{ℕ, ◌+◌, ◌-◌, ◌<◌, ◌≤◌}
@@ -8,6 +8,10 @@ use borrow.Author.Tests.{ne_eqb}
 use lib.IntN.{ℤ}
 use lib.ListN.{length, take}
 use lib.Ieee.{Float}
+use Rattle.std.specs.Prelude.{Result, Ok, Err}
+use Rattle.std.specs.Result.{IsErrAnd}
+use Rattle.refusals.specs.declared.Refusal.{Refusal}
+use Rattle.refusals.specs.Refusals.{number_of}
 use Rattle.matrix.specs.Matrix.{matrix_of}
 use Rattle.matrix.specs.declared.Measure.TheVariants.{Shared}
 use Rattle.shape.specs.Shape.{shape_no}
@@ -33,7 +37,7 @@ use Rattle.metrics_update.proofs.Steps as law
 use Rattle.metrics_laws.proofs.Meaning.{never_full}
 use Rattle.metrics_in_place.specs.declared.Used.{Used}
 use Rattle.metrics_in_place.specs.declared.Closed.{Closed}
-use Rattle.metrics_in_place.specs.InPlace.{Runs, runs_of, state_of, Within, events_in, runs_booked, runs_at, runs_after, Booked, BookedBy, Updated}
+use Rattle.metrics_in_place.specs.InPlace.{Runs, runs_of, state_of, Within, events_in, runs_booked, runs_at, runs_after, closed_of, Booked, BookedBy, Updated}
 
 -- ---- a pairing
 module _ (r : Runs) (u : Used) (w : Within r u) (frame : ℤ) (truths hypotheses : List ℤ) (distances : List Float) (p : Pairing) (f : Fitting (length truths) (length hypotheses) p) where
@@ -150,3 +154,14 @@ as_updated r u frame' frame ef truths hypotheses gt hyp threshold after c t =
       state = t.state ∙ (λ j. frame_after (state_of r u) (ef j) truths hypotheses gt hyp threshold);
       runs = t.runs ∙ (λ j. runs_at c.number (runs_after r u (ef j) truths hypotheses gt hyp threshold) r);
     }
+
+-- a refusal of its shape, passed on
+passed : (u : Used) (r : Result Used Refusal) (e : Refusal) → IsErrAnd r (λ (x : Refusal). x ≡ e) → closed_of u r ≡ record { number = number_of e; used = u }
+passed u (Ok next) e h = absurd h
+passed u (Err x) e h = ap (λ (z : Refusal). closed_of u (Err z)) h
+
+pub passed_on : (r : Runs) (u : Used) (frame : ℤ) (truths hypotheses : List ℤ) (gt hyp : List Float) (threshold : Float) (o : Result Used Refusal) (e : Refusal)
+    → number_of e ≡ shape_no (length truths) (length gt) (length hypotheses) (length hyp) → IsErrAnd o (λ (y : Refusal). y ≡ e)
+    → Updated r u frame truths hypotheses gt hyp threshold r (closed_of u o)
+passed_on r u frame truths hypotheses gt hyp threshold o e s h =
+    subst (Updated r u frame truths hypotheses gt hyp threshold r) (sym (passed u o e h)) (misshapen r u frame truths hypotheses gt hyp threshold (number_of e) s (law.some_number e))

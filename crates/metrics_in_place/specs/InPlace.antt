@@ -1,5 +1,7 @@
 -- Module 4's update over four lent runs of numbers and their used counts. They stand for the state of `state_of`.
-use Rattle.std.specs.Prelude.{cond, ◌≡◌, List, ℕ, ◌≤◌, eqb, ℤ, length, take, Float}
+use Rattle.std.specs.Prelude.{cond, Result, Ok, Err, ◌≡◌, List, ℕ, ◌≤◌, eqb, ℤ, length, take, Float}
+use Rattle.refusals.specs.declared.Refusal.{Refusal}
+use Rattle.refusals.specs.Refusals.{number_of}
 use Rattle.matrix.specs.Matrix.{matrix_of}
 use Rattle.matrix.specs.declared.Measure.TheVariants.{Shared}
 use Rattle.events.specs.declared.Event.{Event}
@@ -66,6 +68,11 @@ runs_booked r u frame truths hypotheses distances p =
 -- beside a refusal the numbers that came
 abbrev pub runs_at : ℕ → Runs → Runs → Runs
 runs_at number next came = cond (eqb number 0) next came
+
+-- the used counts that a frame comes to, or its refusal, read as what a call gives
+abbrev pub closed_of : Used → Result Used Refusal → Closed
+closed_of came (Ok used) = record { number = 0; used = used }
+closed_of came (Err r) = record { number = number_of r; used = came }
 
 pub record Booked (came : Runs) (used : Used) (frame : ℤ) (truths hypotheses : List ℤ) (distances : List Float) (p : Pairing) (after : Runs) (r : Closed) : Type 0 where
   pub state : record { number = r.number; state = state_of after r.used } ≡ book_of (state_of came used) frame truths hypotheses distances p

@@ -8,6 +8,9 @@ use borrow.Author.Tests.{le-ltb, eq-eqb, ne_eqb}
 use lib.IntN.{ℤ}
 use lib.ListN.{length}
 use lib.Ieee.{Float}
+use Rattle.refusals.specs.declared.Refusal.{Refusal}
+use Rattle.refusals.specs.declared.Refusal.TheVariants.{Unsound, TooMany, Misfit, EmptyBox, FullTable, NoRoom, Overflow}
+use Rattle.refusals.specs.Refusals.{number_of}
 use Rattle.matrix.specs.Matrix.{matrix_of, room_no, iou_matrix_no}
 use Rattle.matrix.specs.Matrix as matrices
 use Rattle.matrix.specs.declared.Measure.TheVariants.{Shared}
@@ -18,6 +21,16 @@ use Rattle.metrics.specs.State.{sound_state}
 use Rattle.metrics.proofs.Sound.{sound_reads}
 pub use Rattle.metrics_booking.proofs.Steps.{truths_full, hypotheses_full, log_full, all_booked}
 use Rattle.metrics_update.specs.Update.{Within, refused_at, paired_after, frame_after}
+
+-- no reason has the number 0
+pub some_number : (r : Refusal) → number_of r ≡ 0 → ⊥
+some_number Unsound h = omega arith
+some_number TooMany h = omega arith
+some_number Misfit h = omega arith
+some_number EmptyBox h = omega arith
+some_number FullTable h = omega arith
+some_number NoRoom h = omega arith
+some_number Overflow h = omega arith
 
 -- ---- a frame
 module _ (s : MOTAccumulator) (frame : ℤ) (truths hypotheses : List ℤ) (gt hyp : List Float) (threshold : Float) (number : ℕ)

@@ -40,10 +40,9 @@ pub fn update_sound(
 {
     let rows = gt_ids.len();
     let columns = hyp_ids.len();
-    let number = shape::shape_no(rows, gt_boxes.len(), columns, hyp_boxes.len());
-    if number != 0 {
+    if let Err(refusal) = shape::check_shape(rows, gt_boxes.len(), columns, hyp_boxes.len()) {
         return Updated {
-            number,
+            number: refusal.number(),
             state: s,
         };
     }

@@ -108,8 +108,8 @@ pub fn update(
     ensures { Answered (runs_of numbers.old log_distances.old table.old) used.old frame_id object_ids.now hypothesis_ids.now distances.now (runs_of numbers.new log_distances.new table.new) used.new result }
 {
     if !whole(numbers.len(), log_distances.len(), table.len(), used.len()) {
-        let shape = sizes::shape_no(object_ids.len(), hypothesis_ids.len(), distances.len());
-        return sizes::lengths_no(shape);
+        let shape = sizes::check_frame(object_ids.len(), hypothesis_ids.len(), distances.len());
+        return sizes::wrong_length(shape).number();
     }
     update_whole(
         numbers,

@@ -1,5 +1,5 @@
 -- The update in place, by the ways that the code goes. Assumes nothing.
-use mathlib.Core.Path.{◌≡◌, refl, sym, ap, ◌∙◌}
+use mathlib.Core.Path.{◌≡◌, refl, sym, ap, ◌∙◌, subst}
 use mathlib.Core.Bool.{true, false}
 use mathlib.Core.List.{List}
 use Prim.Native.Nat.{ℕ, ◌+◌, ◌-◌, ◌<◌, ◌≤◌}
@@ -22,12 +22,16 @@ use Rattle.booking_in_place.specs.Written.{numbers_after, distances_after}
 use Rattle.booking_in_place.proofs.Events.{log_after_lem}
 use Rattle.motmetrics.specs.declared.MOTAccumulator.{MOTAccumulator}
 use Rattle.motmetrics_update.specs.declared.Updated.{Updated as After}
+use Rattle.std.specs.Prelude.{Result, Ok, Err}
+use Rattle.std.specs.Result.{IsErrAnd}
+use Rattle.refusals.specs.declared.Refusal.{Refusal}
+use Rattle.refusals.specs.Refusals.{number_of}
 use Rattle.sizes.specs.Sizes.{shape_no}
 use Rattle.motmetrics_update.specs.Update.{matched_by, book_of}
 use Rattle.motmetrics_update.proofs.Steps as steps
 use Rattle.motmetrics_in_place.specs.declared.Used.{Used}
 use Rattle.motmetrics_in_place.specs.declared.Closed.{Closed}
-use Rattle.motmetrics_in_place.specs.Updated.{Runs, runs_of, state_of, Within, events_by, runs_after, runs_at, Framed, Updated}
+use Rattle.motmetrics_in_place.specs.Updated.{Runs, runs_of, state_of, Within, events_by, runs_after, runs_at, closed_of, Framed, Updated}
 
 abbrev closed : ℕ → Used → Closed
 closed number used = record { number = number; used = used }
@@ -89,3 +93,14 @@ module _ (x : Runs) (used : Used) (frame : ℤ) (objects hypotheses : List ℤ) 
         booked = f.booked ∙ (ap (book_of (state_of x used) frame objects hypotheses distances) e ∙ steps.paired (state_of x used) frame objects hypotheses distances k ek z);
         written = f.written ∙ ap (λ (q : Pairing). runs_at r.number x (runs_after x used frame objects hypotheses distances q)) e;
       }
+
+-- a refusal of its shape, passed on
+passed : (used : Used) (r : Result Used Refusal) (e : Refusal) → IsErrAnd r (λ (x : Refusal). x ≡ e) → closed_of used r ≡ closed (number_of e) used
+passed used (Ok next) e h = absurd h
+passed used (Err x) e h = ap (λ (z : Refusal). closed (number_of z) used) h
+
+pub passed_on : (x : Runs) (used : Used) (frame : ℤ) (objects hypotheses : List ℤ) (distances : List Float) (r : Result Used Refusal) (e : Refusal)
+    → number_of e ≡ shape_no (length objects) (length hypotheses) (length distances) → IsErrAnd r (λ (y : Refusal). y ≡ e)
+    → Updated x used frame objects hypotheses distances x (closed_of used r)
+passed_on x used frame objects hypotheses distances r e s h =
+    subst (Updated x used frame objects hypotheses distances x) (sym (passed used r e h)) (misshapen x used frame objects hypotheses distances (number_of e) s (steps.some_number e))

@@ -1,5 +1,7 @@
 -- The update of module 3's MOTAccumulator over the runs of a log and of a table, and their used counts.
-use Rattle.std.specs.Prelude.{cond, List, ◌≡◌, ℕ, ◌≤◌, eqb, ℤ, length, take, Float}
+use Rattle.std.specs.Prelude.{cond, Result, Ok, Err, List, ◌≡◌, ℕ, ◌≤◌, eqb, ℤ, length, take, Float}
+use Rattle.refusals.specs.declared.Refusal.{Refusal}
+use Rattle.refusals.specs.Refusals.{number_of}
 use Rattle.events.specs.declared.Event.{Event}
 use Rattle.event_columns.specs.Columns.{log_of}
 use Rattle.partners.specs.Partners.{pairs_of}
@@ -52,6 +54,11 @@ runs_after x used frame objects hypotheses distances p =
 -- beside a refusal each number is the one that came
 abbrev pub runs_at : ℕ → Runs → Runs → Runs
 runs_at number came next = cond (eqb number 0) next came
+
+-- the used counts that a frame comes to, or its refusal, read as what a call gives
+abbrev pub closed_of : Used → Result Used Refusal → Closed
+closed_of came (Ok used) = record { number = 0; used = used }
+closed_of came (Err r) = record { number = number_of r; used = came }
 
 -- ---- A FRAME whose pairing is there
 pub record Framed (x : Runs) (used : Used) (frame : ℤ) (objects hypotheses : List ℤ) (distances : List Float) (p : Pairing) (y : Runs) (r : Closed) : Type 0 where

@@ -5,7 +5,7 @@ ghost use Rattle.std.specs.Prelude.{◌≡◌};
 ghost use Rattle.refusals.specs.Refusals.{outcome_of};
 ghost use Rattle.shape.specs.Shape.{size_no, fit_no, shape_no};
 
-use refusals::{Refusal, outcome};
+use refusals::Refusal;
 
 // Too many ids, or whole boxes, on a side.
 #[tactic(auto, unfolding(crate::specs::Shape::size_no))]
@@ -41,11 +41,4 @@ pub fn check_shape(gt_ids: usize, gt: usize, pred_ids: usize, pred: usize) -> Re
     check_size(pred_ids, pred)?;
     check_fit(gt_ids, gt)?;
     check_fit(pred_ids, pred)
-}
-
-// Kept until its callers have moved: `check_shape` says the same by a Result.
-pub fn shape_no(gt_ids: usize, gt: usize, pred_ids: usize, pred: usize) -> u32
-    ensures { result ≡ shape_no gt_ids gt pred_ids pred }
-{
-    outcome(check_shape(gt_ids, gt, pred_ids, pred))
 }

@@ -3,10 +3,10 @@
 
 ghost use Rattle.std.specs.Prelude.{◌≡◌, true, ◌≤◌, nat_abs};
 ghost use Rattle.std.specs.Int.Signed.{non_neg};
-ghost use Rattle.refusals.specs.Refusals.{outcome_of};
+ghost use Rattle.refusals.specs.Refusals.{number_of, outcome_of};
 ghost use Rattle.sizes.specs.Sizes.{shape_no, log_and_table, lengths_no};
 
-use refusals::{Refusal, outcome};
+use refusals::Refusal;
 
 /// A count that is not negative. (Wider than an i32, so that the sum of 256 of them can be tested.)
 pub fn size(n: i32) -> usize
@@ -33,13 +33,6 @@ pub fn check_frame(rows: usize, columns: usize, size: usize) -> Result<(), Refus
     Ok(())
 }
 
-// Kept until its callers have moved: `check_frame` says the same by a Result.
-pub fn shape_no(rows: usize, columns: usize, size: usize) -> u32
-    ensures { result ≡ shape_no rows columns size }
-{
-    outcome(check_frame(rows, columns, size))
-}
-
 /// Whether a lent log and a lent table of truth ids are as long as a state's.
 #[tactic(auto, unfolding(crate::specs::Sizes::log_and_table))]
 pub fn log_and_table(numbers: usize, distances: usize, table: usize) -> bool
@@ -48,10 +41,14 @@ pub fn log_and_table(numbers: usize, distances: usize, table: usize) -> bool
     numbers == 4096 && distances == 1024 && table == 768
 }
 
-/// The number for a lent state of another length, where the frame's own lengths have the number `shape`.
+/// Why a lent state of another length is refused, where `shape` is the outcome of the frame's own lengths: as `TooMany` where that is,
+/// and else as a `Misfit`.
 #[tactic(auto, unfolding(crate::specs::Sizes::lengths_no))]
-pub fn lengths_no(shape: u32) -> u32
-    ensures { result ≡ lengths_no shape }
+pub fn wrong_length(shape: Result<(), Refusal>) -> Refusal
+    ensures { number_of result ≡ lengths_no (outcome_of shape) }
 {
-    if shape == 2 { 2 } else { 3 }
+    match shape {
+        Err(Refusal::TooMany) => Refusal::TooMany,
+        _ => Refusal::Misfit,
+    }
 }

@@ -8,7 +8,7 @@ use Rattle.matrix.specs.declared.Measure.TheVariants.{Shared}
 use Rattle.shape.proofs.Part as parts
 use Rattle.shape.proofs.Sides.{Side, sides}
 use Rattle.metrics_update.proofs.Steps as update
-use Rattle.metrics_in_place.specs.InPlace.{runs_of, state_of}
+use Rattle.metrics_in_place.specs.InPlace.{runs_of, state_of, closed_of}
 use Rattle.metrics_in_place.proofs.Steps as law
 use Rattle.metrics_in_place.proofs.book_in.Goals as goal
 use Rattle.metrics_in_place.proofs.book_in.Goals.{After-iou_matrix}
@@ -37,4 +37,4 @@ book_shares-requires c = record { within = c.requires.within; gt_ids_len_bound =
 pub returns : goal.returns
 returns c =
     law.framed (runs_of c.args.numbers.now c.args.log_distances.now c.args.table.now c.args.hypotheses.now) c.args.used c.args.frame c.args.gt_ids.now c.args.hyp_ids.now c.args.gt_boxes.now c.args.hyp_boxes.now c.args.iou_threshold _ refl c.requires.hyp_boxes_value.0 _ (to_z-of_z c.ranges.frame) _ (part (goal.at.returns c).After-iou_matrix)
-    (runs_of c.book_shares.new.numbers c.book_shares.new.log_distances c.book_shares.new.table c.book_shares.new.hypotheses) c.book_shares.result c.book_shares.ensures
+    (runs_of c.book_shares.new.numbers c.book_shares.new.log_distances c.book_shares.new.table c.book_shares.new.hypotheses) (closed_of c.args.used c.book_shares.result) c.book_shares.ensures
