@@ -54,10 +54,7 @@ pub extern "C" fn bench_mot_update_in_place(
     if table.len() != 768 || truths > 256 {
         return 0;
     }
-    let mut used = Used {
-        events: 0,
-        truths,
-    };
+    let mut used = Used { events: 0, truths };
     'updates: for _ in 0..times {
         let c = motmetrics_in_place::update_in_place(
             numbers,

@@ -13,6 +13,7 @@ pub fn read(run: &[i32], places: usize, k: usize) -> Cells
     requires { Within (length run.now) places k }
     ensures { result ≡ cells_at run.now places k }
 {
+    // Kept: nine places one by one, since `put` and `cells_at`, which may not change, name them so; a loop would still name each field.
     let b = k + places;
     let c = b + places;
     let d = c + places;

@@ -6,7 +6,7 @@ ghost use Rattle.std.specs.Prelude.{◌≡◌, true, ◌≤◌, ◌<◌, length,
 ghost use Rattle.std.specs.Float.{binary64};
 ghost use Rattle.std.specs.Float.Ieee.{to_bits};
 ghost use Rattle.io.specs.Counts.{IsPrefixLen};
-ghost use Rattle.decimal_text.specs.Texts.{all_digits, sign_of, name_of, exponent_of, shown_of, Laid, Numbered, Written, WrittenAt};
+ghost use Rattle.decimal_text.specs.Texts.{all_digits, sign_of, name_of, shown_of, Laid, Numbered, Written, WrittenAt};
 
 use crate::letters::put;
 use crate::limbs::millionths;

@@ -28,7 +28,7 @@ pub struct MOTMetrics {
 }
 
 /// The number, and the metrics; beside a refusal they are all 0.
-// Kept: a refusal is a number beside the state at each public call, for C callers too.
+// Kept: `evaluated_of` promises a number, and zeros beside a refusal.
 #[derive(Clone, Copy)]
 pub struct Evaluated {
     pub number: u32,

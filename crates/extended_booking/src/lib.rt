@@ -14,10 +14,7 @@ use rows::ExtendedMOTAccumulator;
 pub fn refused(number: u32, s: ExtendedMOTAccumulator) -> Booked
     ensures { result ≡ refused_at number s }
 {
-    Booked {
-        number,
-        state: s,
-    }
+    Booked { number, state: s }
 }
 
 /// A frame whose pairing is there.
@@ -27,7 +24,15 @@ pub fn book(s: ExtendedMOTAccumulator, gt_ids: &[i32], pred_ids: &[i32], p: Pair
     ensures { result ≡ booked_with s gt_ids.now pred_ids.now (found p) }
 {
     frame::book_frame(
-        s, gt_ids, pred_ids, &p.pair_rows, &p.pair_cols, &p.left_rows, p.pairs, p.lefts, p.extra,
+        s,
+        gt_ids,
+        pred_ids,
+        &p.pair_rows,
+        &p.pair_cols,
+        &p.left_rows,
+        p.pairs,
+        p.lefts,
+        p.extra,
         p.distance,
     )
 }

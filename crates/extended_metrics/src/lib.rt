@@ -2,7 +2,7 @@
 //! Ported from norfair-rs, internal/motmetrics/accumulator.rs, which follows py-motmetrics (NOTICE).
 #![tactic(auto)]
 
-ghost use Rattle.std.specs.Prelude.{◌≡◌, true, ◌+◌, ◌*◌, ◌≤◌, pos, take};
+ghost use Rattle.std.specs.Prelude.{◌≡◌, true, ◌+◌, ◌≤◌, take};
 ghost use Rattle.std.specs.Int.Signed.{non_neg};
 ghost use Rattle.slots.specs.Slots.{counts_sound};
 ghost use Rattle.extended_metrics.specs.Metrics.{class_tally, lone_of, tally_of, refused_at, summed_of, metrics_of};
@@ -14,7 +14,7 @@ use rows::ExtendedMOTAccumulator;
 use slots::Slot;
 
 /// The Rust's four numbers behind the port's own.
-// Kept: a refusal is a number beside the counts at each public call, for C callers too.
+// Kept: `metrics_of` promises a number, and zeros beside a refusal.
 #[derive(Clone, Copy, Default)]
 pub struct ExtendedMetrics {
     pub number: u32,
@@ -53,7 +53,7 @@ fn of_class(class: Class) -> Tally
     }
 }
 
-// One lifecycle.
+// The tally of one lifecycle.
 fn tally_of_one(it: TrackLifecycle) -> Tally
     requires { non_neg it.fragmentations ≡ true }
     ensures { (result ≡ lone_of it) × Below result 1 }

@@ -7,6 +7,7 @@ ghost use Rattle.ids.specs.Ids.{seek_of, is_absent, distinct_of};
 ghost use Rattle.ids.specs.Chains.{bucket_of, Last, Chained};
 
 /// Where an id stands.
+// Kept: an enum of its own, since `seek_of` and the theorems over it, which may not change, say At and Absent.
 #[derive(Clone, Copy)]
 pub enum Lookup {
     At(usize),

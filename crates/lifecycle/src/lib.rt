@@ -31,7 +31,7 @@ pub struct Updated {
 }
 
 /// What `coverage` answers: its number, and the share; beside a refusal 0.0.
-// Kept: a refusal is a number beside the value at each public call, for C callers too.
+// Kept: `coverage_of` promises a number, and 0.0 beside a refusal.
 #[derive(Clone, Copy)]
 pub struct Coverage {
     pub number: u32,

@@ -1,5 +1,5 @@
 //! Standard input, word by word. Where the line does not say what is asked for, a method answers None; what it has read stays read.
-ghost use Rattle.std.specs.Prelude.{◌≡◌, true, false, ◌≤◌, length, IfSome, option_map};
+ghost use Rattle.std.specs.Prelude.{◌≡◌, false, ◌≤◌, length, IfSome, option_map};
 ghost use Rattle.std.specs.Float.{binary64};
 ghost use Rattle.std.specs.Float.Ieee.{of_bits};
 ghost use Rattle.io.specs.Counts.{IsPrefixLen};

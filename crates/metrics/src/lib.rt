@@ -31,7 +31,7 @@ pub enum EventType {
 }
 
 /// A number, and a count; beside a refusal it is 0.
-// Kept: a refusal is a number beside the value at each public call, for C callers too.
+// Kept: `size_is` promises a number, and 0 beside a refusal.
 #[derive(Clone, Copy)]
 pub struct Count {
     pub number: u32,
@@ -39,7 +39,7 @@ pub struct Count {
 }
 
 /// A number, and a score; beside a refusal it is 0.
-// Kept: a refusal is a number beside the value at each public call, for C callers too.
+// Kept: `score_is` promises a number, and 0.0 beside a refusal.
 #[derive(Clone, Copy)]
 pub struct Score {
     pub number: u32,

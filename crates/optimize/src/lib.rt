@@ -2,7 +2,7 @@
 // A matrix is one run, row after row; lists stand in 64 places with a count of those used, zeros behind them.
 #![tactic(auto)]
 
-ghost use Rattle.std.specs.Prelude.{◌≡◌, false, ◌+◌, ◌*◌, ◌≤◌, length, replicate};
+ghost use Rattle.std.specs.Prelude.{◌≡◌, false, ◌+◌, ◌*◌, ◌≤◌, length};
 ghost use Rattle.optimize.specs.Answer.{assignment_no, passes_of, result_of, empty_of, rows_alone, Answered};
 ghost use Rattle.optimize.specs.Inner.{Listed};
 ghost use Rattle.refusals.specs.Refusals.{outcome_of};

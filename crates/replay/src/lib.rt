@@ -2,7 +2,7 @@
 #![tactic(auto)]
 
 ghost use Rattle.std.specs.Prelude.{◌≡◌, ◌-◌, nat_abs};
-ghost use Rattle.replay.specs.Replay.{row_of, no_row, refused_at, booked_by, step_of};
+ghost use Rattle.replay.specs.Replay.{row_of, refused_at, step_of};
 
 use metrics::MOTAccumulator;
 use rows::ExtendedMOTAccumulator;
@@ -17,6 +17,7 @@ pub struct Both {
 }
 
 /// The numbers that both gave, the frame's row, and the states: beside a refusal a row of zeros and the states that came.
+// Kept: two numbers beside the states, as `step_of` promises them.
 #[derive(Clone, Copy)]
 pub struct Step {
     pub extended_number: u32,
@@ -28,12 +29,7 @@ pub struct Step {
 fn gap(after: i32, before: i32) -> u64
     ensures { result ≡ nat_abs after - nat_abs before }
 {
-    let a = size(after);
-    let b = size(before);
-    if a < b {
-        return 0;
-    }
-    a - b
+    size(after).saturating_sub(size(before))
 }
 
 fn added(before: ExtendedMOTAccumulator, after: ExtendedMOTAccumulator) -> Row
@@ -90,9 +86,6 @@ pub fn play_frame(
         extended_number: 0,
         metrics_number: 0,
         row,
-        both: Both {
-            extended,
-            metrics,
-        },
+        both: Both { extended, metrics },
     }
 }

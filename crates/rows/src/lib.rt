@@ -57,6 +57,7 @@ pub struct Place {
 
 /// What a row does to the table: the slot that stands at its place then, and how many places are used. Where a count would have passed it
 /// is over, and the slot as it was: the rows go on, as a later one may find no place, which is the reason to give then.
+// Kept: a flag beside the slot, since a row that is over does not end the trial.
 #[derive(Clone, Copy)]
 pub struct Step {
     pub slot: Slot,

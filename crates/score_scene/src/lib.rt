@@ -12,7 +12,7 @@ use rows::ExtendedMOTAccumulator;
 use scenes::Scene;
 use score_text::frames::{say_head, say_row};
 use score_text::lives::say_lives;
-use score_text::refusals::say_refusal;
+use score_text::reasons::say_refusal;
 use score_totals::say_totals;
 use summary::running_coverage;
 

@@ -3,4 +3,4 @@
 
 pub mod frames;
 pub mod lives;
-pub mod refusals;
+pub mod reasons;

@@ -2,7 +2,7 @@
 #![tactic(auto)]
 
 ghost use Rattle.std.specs.Prelude.{◌≡◌};
-ghost use Rattle.slot_cells.specs.Cells.{is_set, flag_of, known_of, partner_id, partner_of, slot_of, cells_of};
+ghost use Rattle.slot_cells.specs.Cells.{partner_of, slot_of, cells_of};
 
 use lifecycle::TrackLifecycle;
 use slots::Slot;
@@ -74,6 +74,7 @@ impl From<Slot> for Cells {
 }
 
 /// The slot that nine numbers stand for.
+// Kept: what may not change is that this public function stands; `Slot::from` is the same.
 pub fn slot_of(cells: Cells) -> Slot
     ensures { result ≡ slot_of cells }
 {

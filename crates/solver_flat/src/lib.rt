@@ -1,7 +1,7 @@
 // The solver's lists and counts written into 261 places of a lent run, for the border to C. Nothing is made by value and copied.
 #![tactic(auto)]
 
-ghost use Rattle.std.specs.Prelude.{◌≡◌, false, [], ◌∷◌, ◌+◌, ◌*◌, ◌≤◌, length, replicate};
+ghost use Rattle.std.specs.Prelude.{◌≡◌, false, ◌+◌, ◌*◌, ◌≤◌, length, replicate};
 ghost use Rattle.optimize.specs.Answer.{rows_alone};
 ghost use Rattle.solver_flat.specs.Flat.{flat_after};
 ghost use Rattle.solver_flat.specs.Inner.{Clear, Pasted, PickedAt, PairsAt, Found};

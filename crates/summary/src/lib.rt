@@ -1,7 +1,7 @@
 //! What a table of scores says of an accumulator: how well all truth is covered so far, and the scores of its totals.
 #![tactic(auto)]
 
-ghost use Rattle.std.specs.Prelude.{◌≡◌, true, ◌≤◌, nat_abs};
+ghost use Rattle.std.specs.Prelude.{◌≡◌, ◌≤◌, nat_abs};
 ghost use Rattle.scores.specs.Scores.{Few};
 ghost use Rattle.summary.specs.Coverage.{Below, covered_of, used_of, share_of, marks_of, running_of};
 ghost use Rattle.summary.specs.Totals.{totals_of, few_of, scores_for, scores_of};
@@ -124,10 +124,11 @@ fn totals(s: ExtendedMOTAccumulator) -> Tally
 {
     let matches = s.num_matches.unsigned_abs();
     let switches = s.num_switches.unsigned_abs();
+    let misses = s.num_misses.unsigned_abs();
     Tally {
         matches: matches.saturating_sub(switches) as usize,
         switches: switches as usize,
-        misses: s.num_misses.unsigned_abs() as usize,
+        misses: misses as usize,
         false_positives: s.num_false_positives.unsigned_abs() as usize,
         truths: s.num_objects.unsigned_abs() as usize,
         distance: s.total_distance,

@@ -59,6 +59,7 @@ pub fn next_frame(frame_id: i32) -> i32
 }
 
 /// Whether all three of the tests hold.
+// Kept: wrong versions of it are tried (must-fail/), and the two tests below are proved by it.
 pub fn all_three(a: bool, b: bool, c: bool) -> bool
     ensures { result ≡ (a && (b && c)) }
 {
