@@ -116,6 +116,7 @@ fn whole(run: usize, counters: usize, distance: usize) -> bool
 }
 
 // The update of lent runs that are as long as a state's.
+// Kept: a number and no Result, as `Closed` and `Answered`, which may not change, have it.
 fn update_whole(
     run: &mut [i32],
     counters: &mut [i32],

@@ -65,6 +65,7 @@ fn whole(numbers: usize, log_distances: usize, table: usize, hypotheses: usize, 
 }
 
 // The update of lent runs that are as long as a state's.
+// Kept: a number and no Result, as `Closed` and `Answered`, which may not change, have it.
 fn update_whole(
     numbers: &mut [i32],
     log_distances: &mut [f64],
@@ -133,8 +134,13 @@ pub fn update(
         hypotheses.len(),
         used.len(),
     ) {
-        let shape = shape::shape_no(gt_ids.len(), gt_boxes.len(), hyp_ids.len(), hyp_boxes.len());
-        return sizes::lengths_no(shape);
+        let shape = shape::check_shape(
+            gt_ids.len(),
+            gt_boxes.len(),
+            hyp_ids.len(),
+            hyp_boxes.len(),
+        );
+        return sizes::wrong_length(shape).number();
     }
     update_whole(
         numbers,

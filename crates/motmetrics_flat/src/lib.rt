@@ -57,6 +57,7 @@ fn whole(numbers: usize, log_distances: usize, table: usize, used: usize) -> boo
 }
 
 // The update of lent runs that are as long as a state's.
+// Kept: a number and no Result, as `Closed` and `Answered`, which may not change, have it.
 fn update_whole(
     numbers: &mut [i32],
     log_distances: &mut [f64],

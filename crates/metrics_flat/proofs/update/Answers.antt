@@ -9,4 +9,4 @@ use Rattle.metrics_flat.proofs.update.Goals as goal
 pub returns-then-not-whole : goal.returns-then-not-whole
 returns-then-not-whole c =
     let x = runs_of c.args.numbers.now c.args.log_distances.now c.args.table.now c.args.hypotheses.now in
-    subst (Answered x c.args.used.now c.args.frame c.args.gt_ids.now c.args.hyp_ids.now c.args.gt_boxes.now c.args.hyp_boxes.now c.args.iou_threshold x c.args.used.now) (sym (c.lengths_no.ensures ∙ ap lengths_no c.shape_no-shape.ensures)) (ways.no_state x c.args.used.now c.args.frame c.args.gt_ids.now c.args.hyp_ids.now c.args.gt_boxes.now c.args.hyp_boxes.now c.args.iou_threshold (sym c.whole.ensures ∙ c.if-not-whole.true))
+    subst (Answered x c.args.used.now c.args.frame c.args.gt_ids.now c.args.hyp_ids.now c.args.gt_boxes.now c.args.hyp_boxes.now c.args.iou_threshold x c.args.used.now) (sym (c.number.ensures ∙ (c.wrong_length.ensures ∙ ap lengths_no c.check_shape-shape.ensures))) (ways.no_state x c.args.used.now c.args.frame c.args.gt_ids.now c.args.hyp_ids.now c.args.gt_boxes.now c.args.hyp_boxes.now c.args.iou_threshold (sym c.whole.ensures ∙ c.if-not-whole.true))
