@@ -3,9 +3,6 @@
 
 use lines::session::Session;
 
-/// No more lines than these are answered.
-const MOST_LINES: u64 = 0x100_0000_0000;
-
 // None where no request has the name, or the line does not say what it needs.
 fn answer(name: &[u8], s: &mut Session) -> Option<()> {
     match name {
@@ -44,23 +41,6 @@ fn answer_line(s: &mut Session) -> Option<()> {
     answer_request(s)
 }
 
-// One line, if there is one. What came before the input's end is answered.
-fn turn(s: &mut Session) {
-    s.reader.peek();
-    if s.reader.over {
-        return;
-    }
-    let answered = answer_line(s);
-    s.end_answer(answered);
-}
-
 fn main(rt: HostRuntime) {
-    let mut s = Session::new(&rt);
-    for _ in 0..MOST_LINES {
-        if !s.goes_on() {
-            break;
-        }
-        turn(&mut s);
-    }
-    s.writer.flush();
+    Session::new(&rt).answer_lines(answer_line);
 }

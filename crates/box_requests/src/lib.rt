@@ -8,6 +8,7 @@ use float_bits::computed;
 use lines::input::{LONGEST_RUN, Reader};
 use lines::output::Writer;
 use lines::session::Session;
+use refusals::Refusal;
 
 fn next_box(reader: &mut Reader) -> Option<Box> {
     Some(Box {
@@ -42,17 +43,8 @@ pub fn iou_share(s: &mut Session) -> Option<()> {
     Some(())
 }
 
-// How many places a matrix has written.
-fn written(number: u32, truth: usize, predicted: usize) -> usize
-    requires { (truth ≤ 8192) × (predicted ≤ 8192) }
-{
-    if number != 0 {
-        return 0;
-    }
-    (truth / 4) * (predicted / 4)
-}
-
-fn say_matrix<F: Fn(&[f64], &[f64], &mut [f64]) -> u32>(
+// The number, and the places, of which those that the matrix has come first.
+fn say_matrix<F: Fn(&[f64], &[f64], &mut [f64]) -> Result<(), Refusal>>(
     w: &mut Writer,
     fill: F,
     truth: &[f64],
@@ -62,13 +54,19 @@ fn say_matrix<F: Fn(&[f64], &[f64], &mut [f64]) -> u32>(
     requires sizes { (length truth.now ≤ 8192) × (length predicted.now ≤ 8192) }
     requires fill { F.IsAlwaysCallable fill }
 {
-    let number = fill(truth, predicted, places);
+    let (number, written) = match fill(truth, predicted, places) {
+        Ok(()) => (0, (truth.len() / 4) * (predicted.len() / 4)),
+        Err(refusal) => (refusal.number(), 0),
+    };
     w.decimal(u64::from(number));
     w.byte(b' ');
-    w.run(places, written(number, truth.len(), predicted.len()));
+    w.run(places, written);
 }
 
-fn filled_matrix<F: Fn(&[f64], &[f64], &mut [f64]) -> u32>(s: &mut Session, fill: F) -> Option<()>
+fn filled_matrix<F: Fn(&[f64], &[f64], &mut [f64]) -> Result<(), Refusal>>(
+    s: &mut Session,
+    fill: F,
+) -> Option<()>
     requires { F.IsAlwaysCallable fill }
 {
     let mut truth = [0.0; LONGEST_RUN];
@@ -89,9 +87,9 @@ fn filled_matrix<F: Fn(&[f64], &[f64], &mut [f64]) -> u32>(s: &mut Session, fill
 }
 
 pub fn compute_iou_distance_matrix(s: &mut Session) -> Option<()> {
-    filled_matrix(s, matrix::compute_iou_distance_matrix)
+    filled_matrix(s, matrix::write_distances)
 }
 
 pub fn iou_matrix(s: &mut Session) -> Option<()> {
-    filled_matrix(s, matrix::iou_matrix)
+    filled_matrix(s, matrix::write_shares)
 }

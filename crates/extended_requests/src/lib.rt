@@ -9,6 +9,7 @@ use lines::session::{Sequence, Session};
 use rows::ExtendedMOTAccumulator;
 
 // Where a sequence stands, and room for a frame's boxes.
+// Kept: two buffers of fixed memory, filled by two runs of which neither has the other's length.
 #[derive(Clone, Copy)]
 struct Played {
     state: ExtendedMOTAccumulator,

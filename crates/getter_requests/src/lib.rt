@@ -28,12 +28,6 @@ fn say_counts(w: &mut Writer, s: MOTAccumulator) {
     say_counted(w, s.num_hyp_ids());
 }
 
-fn say_floats(w: &mut Writer, m: &MOTMetrics) {
-    for x in [m.mota, m.motp, m.idf1, m.precision, m.recall] {
-        w.next_float(computed(x));
-    }
-}
-
 fn say_sizes(w: &mut Writer, m: &MOTMetrics) {
     for n in [
         m.num_false_positives,
@@ -51,8 +45,9 @@ fn say_sizes(w: &mut Writer, m: &MOTMetrics) {
 
 fn say_evaluated(w: &mut Writer, e: &Evaluated) {
     w.decimal(u64::from(e.number));
-    say_floats(w, &e.metrics);
-    say_sizes(w, &e.metrics);
+    let m = &e.metrics;
+    w.next_computed(&[m.mota, m.motp, m.idf1, m.precision, m.recall]);
+    say_sizes(w, m);
 }
 
 pub fn say_getters(w: &mut Writer, s: MOTAccumulator) {

@@ -46,29 +46,26 @@ pub fn lifecycle_new(s: &mut Session) -> Option<()> {
     Some(())
 }
 
-fn read_call(reader: &mut Reader) -> Option<(TrackLifecycle, i32)> {
-    let it = read_lifecycle(reader)?;
-    let frame = reader.whole()?;
-    reader.end_line()?;
-    Some((it, frame))
-}
-
-fn say_updated(w: &mut Writer, u: Updated) {
-    w.decimal(u64::from(u.number));
-    w.byte(b' ');
-    say_lifecycle(w, u.lifecycle);
+// The number, and the lifecycle as an update leaves it.
+fn say_updated<F: Fn(TrackLifecycle, i32) -> Updated>(s: &mut Session, update: F) -> Option<()>
+    requires { F.IsAlwaysCallable update }
+{
+    let it = read_lifecycle(&mut s.reader)?;
+    let frame = s.reader.whole()?;
+    s.reader.end_line()?;
+    let updated = update(it, frame);
+    s.writer.decimal(u64::from(updated.number));
+    s.writer.byte(b' ');
+    say_lifecycle(&mut s.writer, updated.lifecycle);
+    Some(())
 }
 
 pub fn update_matched(s: &mut Session) -> Option<()> {
-    let (it, frame) = read_call(&mut s.reader)?;
-    say_updated(&mut s.writer, it.update_matched(frame));
-    Some(())
+    say_updated(s, TrackLifecycle::update_matched)
 }
 
 pub fn update_missed(s: &mut Session) -> Option<()> {
-    let (it, frame) = read_call(&mut s.reader)?;
-    say_updated(&mut s.writer, it.update_missed(frame));
-    Some(())
+    say_updated(s, TrackLifecycle::update_missed)
 }
 
 pub fn coverage(s: &mut Session) -> Option<()> {

@@ -15,6 +15,7 @@ use wholes::whole_in;
 pub const LONGEST_RUN: usize = 8192;
 
 /// Standard input through a buffer, in which what was read and not yet passed lies from `at` up to `end`.
+// Kept: a buffer with its places and a flag beside it, which `Onward` and `Within` speak of by these names; the library crates have fixed memory and no heap.
 #[derive(Drop)]
 pub struct Reader {
     pub stdin: Stdin,

@@ -1,6 +1,5 @@
 //! Standard output through a buffer, which goes out when it is full and where flush is called.
-ghost use Rattle.std.specs.Prelude.{◌≡◌, false, cond, ◌+◌, ◌≤◌, set};
-ghost use Rattle.float_bits.specs.Unsigned.{unsigned};
+ghost use Rattle.std.specs.Prelude.{◌≡◌, false, ◌+◌, ◌≤◌, set};
 
 use float_bits::{bits_of, computed};
 use hex_text::spell;
@@ -8,6 +7,7 @@ use std::io::{Stdout, Write};
 use wholes::size;
 
 /// The first `at` bytes of the buffer wait. Once a write has failed, nothing is written.
+// Kept: a buffer with its count and a flag beside it, which `Kept` speaks of by these names; the library crates have fixed memory and no heap.
 #[derive(Drop)]
 pub struct Writer {
     pub stdout: Stdout,
@@ -15,13 +15,6 @@ pub struct Writer {
     pub at: usize,
     pub failed: bool,
     pub ghost waits: { at ≤ 65536 },
-}
-
-// A place of a run as it is written: by the sign of a zero where it was not computed.
-fn place(x: f64, is_computed: bool) -> f64
-    ensures { result ≡ cond is_computed (unsigned x) x }
-{
-    if is_computed { computed(x) } else { x }
 }
 
 impl Writer {
@@ -90,14 +83,15 @@ impl Writer {
         self.text(&letters);
     }
 
-    /// A run, of which the first `computed` places were computed and the others kept.
-    pub fn run(&mut self, xs: &[f64], computed: usize)
+    /// A run, of which the first `written` places were computed and the others kept, the sign of a zero too.
+    pub fn run(&mut self, xs: &[f64], written: usize)
         ensures { Kept self.old self.new }
     {
+        let n = written.min(xs.len());
         self.decimal(xs.len() as u64);
-        for (i, x) in xs.iter().enumerate() {
-            self.byte(b' ');
-            self.float(place(*x, i < computed));
+        self.next_computed(&xs[..n]);
+        for x in &xs[n..] {
+            self.next_float(*x);
         }
     }
 
@@ -123,5 +117,14 @@ impl Writer {
     {
         self.byte(b' ');
         self.float(x);
+    }
+
+    /// Words that are computed floats, each with the space before it.
+    pub fn next_computed(&mut self, xs: &[f64])
+        ensures { Kept self.old self.new }
+    {
+        for x in xs {
+            self.next_float(computed(*x));
+        }
     }
 }

@@ -2,7 +2,11 @@
 use crate::input::Reader;
 use crate::output::Writer;
 
+/// No more lines than these are answered.
+const MOST_LINES: u64 = 0x100_0000_0000;
+
 /// A request reads its words and the line's end by `?`, and then writes: None is a line that does not say it.
+// Kept: a reader beside a writer, both lent to each request by `&mut`; neither is handed back.
 #[derive(Drop)]
 pub struct Session {
     pub reader: Reader,
@@ -17,17 +21,36 @@ impl Session {
         }
     }
 
-    pub fn goes_on(&self) -> bool {
-        !self.reader.over && !self.writer.failed
+    // Whether a line is left, and its answer can still be written.
+    fn goes_on(&mut self) -> bool {
+        if self.writer.failed {
+            return false;
+        }
+        self.reader.peek();
+        !self.reader.over
     }
 
-    /// A line's answer is ended; where the line did not say a request, what is left of it is skipped.
-    pub fn end_answer(&mut self, answered: Option<()>) {
+    // A line's answer is ended; where the line did not say a request, what is left of it is skipped.
+    fn end_answer(&mut self, answered: Option<()>) {
         if answered.is_none() {
             self.reader.skip_line();
             self.writer.byte(b'?');
         }
         self.writer.byte(b'\n');
+    }
+
+    /// One line after the other, up to the input's end or the first write that fails. `answer` writes what a line's answer is.
+    pub fn answer_lines<F: Fn(&mut Session) -> Option<()>>(&mut self, answer: F)
+        requires { F.IsAlwaysCallable answer }
+    {
+        for _ in 0..MOST_LINES {
+            if !self.goes_on() {
+                break;
+            }
+            let answered = answer(self);
+            self.end_answer(answered);
+        }
+        self.writer.flush();
     }
 
     /// The frames of a sequence: how many they are, then one after the other, up to the first that the line does not say.

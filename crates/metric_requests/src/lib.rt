@@ -11,6 +11,7 @@ use metrics_booking::Updated;
 use table_requests::{read_hypotheses, read_truths, say_hypotheses, say_truths};
 
 // Where a sequence stands, and room for a frame's boxes.
+// Kept: two buffers of fixed memory, filled by two runs of which neither has the other's length.
 #[derive(Clone, Copy)]
 struct Played {
     state: MOTAccumulator,

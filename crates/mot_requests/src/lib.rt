@@ -1,7 +1,6 @@
 //! The requests of module 3's MOTAccumulator (oracle/PROTOCOL.md).
 #![tactic(auto)]
 
-use float_bits::computed;
 use lines::input::LONGEST_RUN;
 use lines::output::Writer;
 use lines::session::{Sequence, Session};
@@ -50,7 +49,7 @@ fn say_metrics(w: &mut Writer, c: &Computed) {
     let m = &c.metrics;
     w.decimal(u64::from(c.number));
     say_counts(w, m);
-    say_scores(w, m);
+    w.next_computed(&[m.total_distance, m.mota, m.motp, m.precision, m.recall]);
     w.next_whole(m.mostly_tracked);
     w.next_whole(m.mostly_lost);
     w.next_whole(m.partially_tracked);
@@ -62,12 +61,6 @@ fn say_counts(w: &mut Writer, m: &MOTMetrics) {
     w.next_whole(m.num_false_positives);
     w.next_whole(m.num_switches);
     w.next_whole(m.num_fragmentations);
-}
-
-fn say_scores(w: &mut Writer, m: &MOTMetrics) {
-    for x in [m.total_distance, m.mota, m.motp, m.precision, m.recall] {
-        w.next_float(computed(x));
-    }
 }
 
 pub fn mot(s: &mut Session) -> Option<()> {

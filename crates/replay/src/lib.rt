@@ -26,6 +26,14 @@ pub struct Step {
     pub both: Both,
 }
 
+/// What a frame that is refused adds.
+const NO_ROW: Row = Row {
+    matches: 0,
+    misses: 0,
+    false_positives: 0,
+    switches: 0,
+};
+
 fn gap(after: i32, before: i32) -> u64
     ensures { result ≡ nat_abs after - nat_abs before }
 {
@@ -46,16 +54,10 @@ fn added(before: ExtendedMOTAccumulator, after: ExtendedMOTAccumulator) -> Row
 fn refused(b: Both, extended_number: u32, metrics_number: u32) -> Step
     ensures { result ≡ refused_at b extended_number metrics_number }
 {
-    let nothing = Row {
-        matches: 0,
-        misses: 0,
-        false_positives: 0,
-        switches: 0,
-    };
     Step {
         extended_number,
         metrics_number,
-        row: nothing,
+        row: NO_ROW,
         both: b,
     }
 }
@@ -71,6 +73,7 @@ pub fn play_frame(
 ) -> Step
     ensures { result ≡ step_of b frame truth_ids.now truth_boxes.now ids.now boxes.now }
 {
+    // Kept: both updates answer by a number beside the state, as at each public call, and `step_of` hands on which number.
     let e = extended::update(b.extended, truth_ids, truth_boxes, ids, boxes, 0.5);
     if e.number != 0 {
         return refused(b, e.number, 0);

@@ -38,6 +38,7 @@ fn say_step(w: &mut Writer, frame: u64, step: Step) -> Played
     ensures { Stands result.both result.over (run_after step) }
 {
     let both = step.both;
+    // Kept: two numbers, by which `run_after` tells the refusals, and which are printed.
     if step.extended_number != 0 {
         say_refusal(w, frame, b"the extended accumulator", step.extended_number);
         return Played { both, over: true };

@@ -1,6 +1,7 @@
 //! The numbers of the refusals, by name.
 use lines::output::Writer;
 
+// Kept: by number, as each public call answers a refusal; done and a number of no refusal have a text too.
 pub fn say_name(w: &mut Writer, number: u32) {
     match number {
         0 => w.text(b"done"),

@@ -10,11 +10,10 @@ fn say(w: &mut Writer, n: usize) {
     w.next_decimal(n as u64);
 }
 
-// The first `used` places, and how many they are; no list is longer than its 64 places.
-fn say_list(w: &mut Writer, places: &[usize; 64], used: usize) {
-    let n = used.min(64);
-    say(w, n);
-    for place in &places[..n] {
+// How many places there are, and the places.
+fn say_list(w: &mut Writer, places: &[usize]) {
+    say(w, places.len());
+    for place in places {
         say(w, *place);
     }
 }
@@ -31,8 +30,8 @@ fn say_pairs(w: &mut Writer, r: &AssignmentResult) {
 fn say_result(w: &mut Writer, r: &AssignmentResult) {
     w.decimal(u64::from(r.number));
     say_pairs(w, r);
-    say_list(w, &r.unmatched_rows, r.num_unmatched_rows);
-    say_list(w, &r.unmatched_cols, r.num_unmatched_cols);
+    say_list(w, &r.unmatched_rows[..r.num_unmatched_rows.min(64)]);
+    say_list(w, &r.unmatched_cols[..r.num_unmatched_cols.min(64)]);
     say(w, r.corrections);
     say(w, r.paths);
 }

@@ -6,8 +6,6 @@ use float_bits::float_of;
 use lines::session::Session;
 use numerals::digits::hex;
 
-const MOST_LINES: u64 = 0x100_0000_0000;
-
 // The line's word as a text; `?` where it is no pattern, None where it is too long or not the only one.
 fn answer_line(s: &mut Session) -> Option<()> {
     let mut word = [0u8; 64];
@@ -25,14 +23,5 @@ fn answer_line(s: &mut Session) -> Option<()> {
 }
 
 fn main(rt: HostRuntime) {
-    let mut s = Session::new(&rt);
-    for _ in 0..MOST_LINES {
-        s.reader.peek();
-        if !s.goes_on() {
-            break;
-        }
-        let answered = answer_line(&mut s);
-        s.end_answer(answered);
-    }
-    s.writer.flush();
+    Session::new(&rt).answer_lines(answer_line);
 }

@@ -24,16 +24,17 @@ fn read_slot(reader: &mut Reader) -> Option<Slot> {
 
 // A new state with the totals that are read; its table is still empty.
 fn read_totals(reader: &mut Reader) -> Option<ExtendedMOTAccumulator> {
-    let mut state = ExtendedMOTAccumulator::new();
-    state.used = reader.count()? as usize;
-    state.frame_id = reader.whole()?;
-    state.num_matches = reader.whole()?;
-    state.num_misses = reader.whole()?;
-    state.num_false_positives = reader.whole()?;
-    state.num_switches = reader.whole()?;
-    state.num_objects = reader.whole()?;
-    state.total_distance = reader.float()?;
-    Some(state)
+    Some(ExtendedMOTAccumulator {
+        used: reader.count()? as usize,
+        frame_id: reader.whole()?,
+        num_matches: reader.whole()?,
+        num_misses: reader.whole()?,
+        num_false_positives: reader.whole()?,
+        num_switches: reader.whole()?,
+        num_objects: reader.whole()?,
+        total_distance: reader.float()?,
+        ..ExtendedMOTAccumulator::new()
+    })
 }
 
 pub fn read_state(reader: &mut Reader) -> Option<Given<ExtendedMOTAccumulator>> {

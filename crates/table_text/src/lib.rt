@@ -24,6 +24,12 @@ fn repeat(w: &mut Writer, b: u8, n: usize)
     }
 }
 
+// The decimal digits of n, which stand at the start of letters.
+fn digits(n: u64, letters: &mut [u8; 20]) -> &[u8] {
+    let k = io::decimal(n, letters);
+    &letters[..k]
+}
+
 /// A text at the right end of a column.
 pub fn right(w: &mut Writer, width: usize, text: &[u8])
     ensures { Kept w.old w.new }
@@ -45,18 +51,17 @@ pub fn count(w: &mut Writer, width: usize, n: u64)
     ensures { Kept w.old w.new }
 {
     let mut letters = [0u8; 20];
-    let k = io::decimal(n, &mut letters);
-    right(w, width, &letters[..k]);
+    right(w, width, digits(n, &mut letters));
 }
 
 fn negative(w: &mut Writer, width: usize, n: u64)
     ensures { Kept w.old w.new }
 {
     let mut letters = [0u8; 20];
-    let k = io::decimal(n, &mut letters);
-    repeat(w, b' ', room(room(width, 1), k));
+    let text = digits(n, &mut letters);
+    repeat(w, b' ', room(room(width, 1), text.len()));
     w.byte(b'-');
-    w.text(&letters[..k]);
+    w.text(text);
 }
 
 /// A whole number at the right end of a column.

@@ -1,0 +1,5 @@
+use Rattle.lines.specs.Cursors.{Kept}
+use Rattle.lines.proofs.output.Writer.next_computed.Given as goal
+
+abbrev pub invariant-loop-x : goal.invariant-loop-x
+invariant-loop-x l = Kept l.initial.self l.self
