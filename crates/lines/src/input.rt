@@ -66,7 +66,9 @@ fn ends_word(b: u8) -> bool {
 impl Reader {
     ghost use Rattle.lines.specs.Cursors.{Within, Front, Onward, next_byte, passed_of};
 
+    /// Nothing read yet, and nothing over.
     pub fn new(stdin: Stdin) -> Reader
+        ensures handle { result.stdin ≡ stdin }
         ensures places { (result.at ≡ 0) × (result.end ≡ 0) }
         ensures over { result.over ≡ false }
     {

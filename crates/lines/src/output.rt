@@ -20,7 +20,9 @@ pub struct Writer {
 impl Writer {
     ghost use Rattle.lines.specs.Cursors.{Kept, place_of};
 
+    /// Nothing waits, and no write has failed.
     pub fn new(stdout: Stdout) -> Writer
+        ensures handle { result.stdout ≡ stdout }
         ensures at { result.at ≡ 0 }
         ensures failed { result.failed ≡ false }
     {

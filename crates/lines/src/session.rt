@@ -5,8 +5,8 @@ use crate::output::Writer;
 /// No more lines than these are answered.
 const MOST_LINES: u64 = 0x100_0000_0000;
 
-/// A request reads its words and the line's end by `?`, and then writes: None is a line that does not say it.
-// Kept: a reader beside a writer, both lent to each request by `&mut`; neither is handed back.
+/// A request reads its words and the line's end by `?`, and then writes; a sequence's frames are answered as they are read. None is a
+/// line that does not say it.
 #[derive(Drop)]
 pub struct Session {
     pub reader: Reader,
@@ -39,7 +39,8 @@ impl Session {
         self.writer.byte(b'\n');
     }
 
-    /// One line after the other, up to the input's end or the first write that fails. `answer` writes what a line's answer is.
+    /// One line after the other, up to the input's end or the first write that fails. `answer` writes what a line's answer is,
+    /// and is None where the line does not say it: then its end is not passed yet, as what is left of the line is skipped.
     pub fn answer_lines<F: Fn(&mut Session) -> Option<()>>(&mut self, answer: F)
         requires { F.IsAlwaysCallable answer }
     {
