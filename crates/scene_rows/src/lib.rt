@@ -43,17 +43,11 @@ fn put_rows(rows: &[u64], first: usize, n: usize, ids: &mut [i32], boxes: &mut [
 }
 
 // How many rows a side has: all of count from a place on, or none.
-// Kept: one test for each refusal is no longer than a chain of `||`, and its proof has a case for each.
+#[tactic(auto, unfolding(crate::specs::Digits::size_of))]
 fn rows_there(rows: usize, first: usize, count: usize) -> usize
     ensures { (result ≡ size_of rows first count) × (result ≤ 64) × (0 < result → first + result ≤ rows) }
 {
-    if count > 64 {
-        return 0;
-    }
-    if first > rows {
-        return 0;
-    }
-    if count > rows - first {
+    if count > 64 || first > rows || count > rows - first {
         return 0;
     }
     count
