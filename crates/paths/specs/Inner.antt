@@ -1,6 +1,7 @@
 -- What the inner functions ask of each other: no part of document 01, and no caller of the search meets it. Definitions only.
 use Rattle.std.specs.Prelude.{ℕ, suc, ◌<◌, ◌≤◌, ◌≡◌, Bool, true, false, List, ◌⊎◌, length, get_or, take, ltb, Float, Option, None, Some}
 use Rattle.square.specs.Index.{count}
+use Rattle.paths.specs.declared.Found.{Found}
 use Rattle.paths.specs.State.{Tables, paired}
 use Rattle.paths.specs.Path.{Bfs, bfs_of, NoPathBelow}
 
@@ -56,9 +57,9 @@ abbrev pub Held : Bfs → List ℕ → List ℕ → ℕ → Type 0
 Held b from queue hit = (tail : ℕ) × Holds b from queue hit tail
 
 -- the free column met, as the definitions have it: 64 is none
-abbrev pub hit_of : Option ℕ → ℕ
+abbrev pub hit_of : Option Found → ℕ
 hit_of None = 64
-hit_of (Some col) = col
+hit_of (Some found) = found.hit
 
 -- a row that step E may end at: the first free one that has a path
 pub record Leads (n : ℕ) (c : List Float) (rows cols : List ℕ) (start : ℕ) : Type 0 where

@@ -3,13 +3,20 @@
 // Kept: n or more for no partner and 64 for no place, as `Flips`, `bfs_of` and `Run` have them, which may not change.
 #![tactic(auto)]
 
-ghost use Rattle.std.specs.Prelude.{◌≡◌, ◌*◌, ◌≤◌, length, get_or, replicate};
+ghost use Rattle.std.specs.Prelude.{◌≡◌, ◌*◌, ◌<◌, ◌≤◌, IfSome, length, get_or, replicate};
 ghost use Rattle.paths.specs.State.{state};
 ghost use Rattle.paths.specs.Path.{bfs_of, Flips, Path};
-ghost use Rattle.paths.specs.Inner.{Trail, Begins, Held, Leads, hit_of};
+ghost use Rattle.paths.specs.Inner.{Trail, Begins, Held, Holds, Leads, hit_of};
 
-/// Breadth first from one free row: the first free column met ends it, and is given. `from` gets for each column met the place in the queue of
-/// the row that it was met from, `queue` the rows in order.
+/// The free column met, and how many rows were queued then.
+#[derive(Clone, Copy)]
+pub struct Found {
+    pub hit: usize,
+    pub tail: usize,
+}
+
+/// Breadth first from one free row: the first free column met ends it, and is given with the number of rows queued. `from` gets for each column
+/// met the place in the queue of the row that it was met from, `queue` the rows in order.
 fn bfs(
     c: &[f64],
     n: usize,
@@ -17,9 +24,10 @@ fn bfs(
     start: usize,
     from: &mut [usize; 64],
     queue: &mut [usize; 64],
-) -> Option<usize>
+) -> Option<Found>
     requires { Begins n cols.now start × (from.old ≡ replicate 64 64) × (length queue.old ≡ 64) × (n * 64 ≤ length c.now) }
-    ensures { Held (bfs_of c.now n cols.now start) from.new queue.new (hit_of result) }
+    ensures held { Held (bfs_of c.now n cols.now start) from.new queue.new (hit_of result) }
+    ensures met { IfSome result (λ found. (found.hit < n) × Holds (bfs_of c.now n cols.now start) from.new queue.new found.hit found.tail) }
 {
     queue[0] = start;
     let mut head = 0usize;
@@ -33,7 +41,7 @@ fn bfs(
                 from[col] = head;
                 let next = cols[col];
                 if n <= next {
-                    hit = Some(col);
+                    hit = Some(Found { hit: col, tail });
                     break 'bfs;
                 }
                 queue[tail] = next;
@@ -79,7 +87,7 @@ pub fn augment(c: &[f64], n: usize, rows: &mut [usize; 64], cols: &mut [usize; 6
 {
     let mut from = [64usize; 64];
     let mut queue = [0usize; 64];
-    if let Some(hit) = bfs(c, n, cols, start, &mut from, &mut queue) {
-        flip(&from, &queue, hit, rows, cols);
+    if let Some(found) = bfs(c, n, cols, start, &mut from, &mut queue) {
+        flip(&from, &queue, found.hit, rows, cols);
     }
 }

@@ -19,7 +19,7 @@ col_in c = in_row c.args.c.now c.args.n (get_or c.bfs.queue c.bfs.head 0) _ (cod
 
 pub bfs-init : goal.bfs-init
 bfs-init c =
-    (c.requires.0, code.begin c.args.c.now c.args.n c.args.cols.now c.args.start c.requires.0 c.args.from.now c.args.queue.now c.requires.1 c.requires.2)
+    (c.requires.0, code.begin c.args.c.now c.args.n c.args.cols.now c.args.start c.requires.0 c.args.from.now c.args.queue.now c.requires.1 c.requires.2, refl)
 
 pub overflow_mul-x-items : goal.overflow_mul-x-items
 overflow_mul-x-items c = omega (arith, c.bfs.invariant.0.tables.n64, row_in (goal.at.overflow_mul-x-items c).In-bfs)
@@ -37,7 +37,7 @@ pub slice_bounds-x-items-end : goal.slice_bounds-x-items-end
 slice_bounds-x-items-end c = omega (arith, c.requires.3, c.bfs.invariant.0.tables.n64, row_in (goal.at.slice_bounds-x-items-end c).In-bfs)
 
 pub loop-col-init : goal.loop-col-init
-loop-col-init c = (c.bfs.invariant.0, code.row_begin _ _ _ _ c.bfs.invariant.0 _ _ _ _ _ c.bfs.invariant.1 c.bfs-test.true)
+loop-col-init c = (c.bfs.invariant.0, code.row_begin _ _ _ _ c.bfs.invariant.0 _ _ _ _ _ c.bfs.invariant.1 c.bfs-test.true, c.bfs.invariant.2)
 
 pub bounds-queue-tail : goal.bounds-queue-tail
 bounds-queue-tail c =
@@ -58,6 +58,7 @@ loop-col-preserved c =
           | else-from-col-eq64-via-else-from-col-eq64 w' ↦ code.skip _ _ _ _ v.0 _ _ _ _ _ _ _ v.1 _ _ _ _ w.from-is w.queue-is w.tail-is refl lt (inl w'.if-from-col-eq64.false)
         ]
       ],
+      v.2,
     )
 
 pub bfs-smaller : goal.bfs-smaller
@@ -66,12 +67,16 @@ bfs-smaller c = omega (arith, code.tail_n _ _ _ _ c.bfs.invariant.0 _ _ _ _ _ c.
 pub bfs-preserved : goal.bfs-preserved
 bfs-preserved c =
     let over = whole_row c.args.c.now c.args.n (get_or c.bfs.queue c.bfs.head 0) c.loop-col.col (code.row_n _ _ _ _ c.bfs.invariant.0 _ _ _ _ _ c.bfs.invariant.1 c.bfs-test.true) c.bfs.invariant.0.tables.n64 c.requires.3 c.loop-col-test.false in
-    (c.loop-col.invariant.0, code.row_end _ _ _ _ c.loop-col.invariant.0 _ _ _ _ _ _ _ c.loop-col.invariant.1 over)
+    (c.loop-col.invariant.0, code.row_end _ _ _ _ c.loop-col.invariant.0 _ _ _ _ _ _ _ c.loop-col.invariant.1 over, c.loop-col.invariant.2)
 
 pub returns-after-bfs : goal.returns-after-bfs
-returns-after-bfs c = (_, code.finish _ _ _ _ c.bfs.invariant.0 _ _ _ _ _ c.bfs.invariant.1 c.bfs-test.false)
+returns-after-bfs c = record {
+  held = (_, code.finish _ _ _ _ c.bfs.invariant.0 _ _ _ _ _ c.bfs.invariant.1 c.bfs-test.false);
+  met = rw c.bfs.invariant.2 tt;
+}
 
 pub returns-then-n-next : goal.returns-then-n-next
 returns-then-n-next c =
     let lt = col_in (goal.at.returns-then-n-next c).In-loop-col in
-    (_, code.ends _ _ _ _ c.loop-col.invariant.0 _ _ _ _ _ _ _ c.loop-col.invariant.1 lt c.if-from-col-eq64.true (zero_here _ c.args.n _ _ lt _ true c.is_zero.ensures c.if-is_zero.true) c.if-n-next.true)
+    let e = code.ends _ _ _ _ c.loop-col.invariant.0 _ _ _ _ _ _ _ c.loop-col.invariant.1 lt c.if-from-col-eq64.true (zero_here _ c.args.n _ _ lt _ true c.is_zero.ensures c.if-is_zero.true) c.if-n-next.true in
+    record { held = (_, e); met = (lt, e) }
