@@ -5,14 +5,15 @@ use mathlib.Core.Bool.{Bool, true, false, not, cond}
 use mathlib.Core.List.{List, [], ◌∷◌, ◌++◌}
 use mathlib.Core.Logic.{⊎_elim}
 use native.Mathlib.Omega.{arith}
-use lib.ListN.{get_or-append, length, get_or, set, take, drop}
+use lib.ListN.{get_or-append, length, length-append, get_or, replicate, set, take, drop}
 use lib.Seq.{drop-cons, get_or-take, length-take-le, get_or-set_same, get_or-set_other}
 use lib.Ieee.{Float, nan, lt, inf, binary64, add, sub}
 use Rattle.floats.specs.Float.{is_zero}
 use borrow.Author.Tests.{not-true, not-false}
-use Rattle.square.specs.Index.{like, loop, on, Picked}
+use Rattle.square.specs.Index.{gather, like, loop, on, Picked}
 use Rattle.square.specs.Square.{at, in_row, least, line}
-use Rattle.square.proofs.Index.{eq-or-not, last_or_before, loop_more, loop_same}
+use Rattle.square.proofs.Gather.{gather-length}
+use Rattle.square.proofs.Index.{below_more, eq-or-not, last_or_before, loop_more, loop_same}
 use Rattle.square.proofs.Picking.{picked_loop}
 use Rattle.square.proofs.Square.{line-length, least_new, least_old}
 use Rattle.square.proofs.Truth.{dec}
@@ -45,6 +46,12 @@ module _ (row : List Float) (js : List ℕ) (m : Float) (t : ℕ) where
   pub all_passed : length js ≤ t → least_in row (drop t js) m ≡ m
   unfolding least_in
   all_passed l = rw (drop_all t js l)
+
+-- none of the entries from `from` on is smaller than m, and the next is none either
+pub none_below : (row : List Float) (js : List ℕ) (m : Float) (from t : ℕ) → ((s : ℕ) → from ≤ s → s < t → lt (get_or row (get_or js s 0) nan) m ≡ false)
+    → lt (get_or row (get_or js t 0) nan) m ≡ false → (s : ℕ) → from ≤ s → s < t + 1 → lt (get_or row (get_or js s 0) nan) m ≡ false
+none_below row js m from t old here s f l =
+    below_more t (λ s. from ≤ s → lt (get_or row (get_or js s 0) nan) m ≡ false) (λ s l f. old s f l) (λ _. here) s (omega arith) f
 
 -- ---- a row of the square, and the listed columns in an array
 abbrev pub row_of : ℕ → List Float → List Float
@@ -82,18 +89,33 @@ unfolding least_in loop
 as_loop row [] m = refl
 as_loop row (j ∷ js) m = as_loop row js (least m (get_or row j nan)) ∙ sym (loop_first (length js) (λ t x. least x (get_or row (get_or (j ∷ js) t 0) nan)) m)
 
-pub listed_row : (c : List Float) (C : List Bool) (i n : ℕ) (columns : List ℕ) (used : ℕ) (m : Float) → Columns columns used → used ≤ length columns → Picked false C n columns used
-    → least_in (row_of i c) (take used columns) m ≡ least_row c C i n m
+-- the minimum over a row's listed columns, where they stand in the square, is that over all columns outside C
+pub listed_square : (c : List Float) (C : List Bool) (i n : ℕ) (columns : List ℕ) (used : ℕ) (m : Float) → Picked false C n columns used
+    → loop used (λ t x. least x (get_or c (listed i columns t) nan)) m ≡ least_row c C i n m
 unfolding least_row least_step
-listed_row c C i n columns used m w le v =
-    as_loop (row_of i c) (take used columns) m
-    ∙ ap (λ (k : ℕ). loop k (λ t x. least x (get_or (row_of i c) (get_or (take used columns) t 0) nan)) m) (length-take-le used columns le)
-    ∙ loop_same used _ _ m (λ t l x. ap (least x) (ap (λ (j : ℕ). get_or (row_of i c) j nan) (get_or-take used columns t 0 l) ∙ row_of-at i c (get_or columns t 0) (w.inside t l)))
-    ∙ picked_loop false C n columns used v (λ j x. least x (at c i j)) m ∙ loop_same n _ _ m (λ j _ x. flipped (on C j) (least x (at c i j)) x)
+listed_square c C i n columns used m v =
+    picked_loop false C n columns used v (λ j x. least x (at c i j)) m ∙ loop_same n _ _ m (λ j _ x. flipped (on C j) (least x (at c i j)) x)
   where
     flipped : (b : Bool) (x y : Float) → cond (not b) x y ≡ cond b y x
     flipped true x y = refl
     flipped false x y = refl
+
+-- the array has room for its used places
+picked_long : (wanted : Bool) (C : List Bool) (n : ℕ) (columns : List ℕ) (used : ℕ) → Picked wanted C n columns used → used ≤ length columns
+picked_long wanted C n columns used v =
+    let picks : ℕ → Bool = λ j. like wanted (on C j) in
+    let l : List ℕ = gather n picks (λ j. j) in
+    omega (arith, v.used_is, ap length v.places_are, length-append l (replicate (64 - length l) 0), gather-length picks (λ j. j) n)
+
+-- the same over the row alone, whose run has 64 entries
+pub listed_row : (c : List Float) (C : List Bool) (i n : ℕ) (columns : List ℕ) (used : ℕ) (m : Float) → ((t : ℕ) → t < used → get_or columns t 0 < 64) → Picked false C n columns used
+    → least_in (row_of i c) (take used columns) m ≡ least_row c C i n m
+listed_row c C i n columns used m inside v =
+    let le = picked_long false C n columns used v in
+    as_loop (row_of i c) (take used columns) m
+    ∙ ap (λ (k : ℕ). loop k (λ t x. least x (get_or (row_of i c) (get_or (take used columns) t 0) nan)) m) (length-take-le used columns le)
+    ∙ loop_same used _ _ m (λ t l x. ap (least x) (ap (λ (j : ℕ). get_or (row_of i c) j nan) (get_or-take used columns t 0 l) ∙ row_of-at i c (get_or columns t 0) (inside t l)))
+    ∙ listed_square c C i n columns used m v
 
 pub rows_none : (c : List Float) (n : ℕ) (R C : List Bool) → least_rows c n R C 0 ≡ inf false
 unfolding least_rows

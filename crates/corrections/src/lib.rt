@@ -14,7 +14,8 @@ ghost use Rattle.corrections.specs.Inner.{Columns, least_in, Listed, Hot};
 /// The first place from `from` on whose listed column has an entry below m, or the number of listed columns.
 fn next_below(line: &[f64], columns: &[usize], from: usize, m: f64) -> usize
     requires { All (λ j. j < length line.now) columns.now × (length columns.now ≤ 64) × (length line.now ≡ 64) × (from ≤ length columns.now) }
-    ensures { (from ≤ result) × (result ≤ length columns.now) × (least_in line.now (drop from columns.now) m ≡ least_in line.now (drop result columns.now) m)
+    ensures first { (t : ℕ) → from ≤ t → t < result → lt (get_or line.now (get_or columns.now t 0) nan) m ≡ false }
+    ensures below { (from ≤ result) × (result ≤ length columns.now) × (least_in line.now (drop from columns.now) m ≡ least_in line.now (drop result columns.now) m)
         × (result < length columns.now → lt (get_or line.now (get_or columns.now result 0) nan) m ≡ true) }
 {
     // Kept: an index counted by hand, and the length where there is none. `position`, and a `for` with an Option, took 4 to 12 in 100 more

@@ -23,7 +23,7 @@ loop-row-preserved c = λ C p.
     let same = get_or-take c.args.n c.args.rs.now c.loop-row.row false lt in
     elim c.if-marked.branch [
       | then-marked w ↦ code.rows_on c.args.c.now c.args.n c.args.rs.now C c.loop-row.row _ _ (c.loop-row.invariant C p)
-          (w.m-is ∙ w.least_row-m.ensures ∙ code.listed_row _ _ _ _ _ _ _ c.requires.2 (omega arith) p) (sym same ∙ w.if-marked.true)
+          (w.m-is ∙ w.least_row-m.ensures ∙ code.listed_row _ _ _ _ _ _ _ c.requires.2.inside p) (sym same ∙ w.if-marked.true)
       | else-marked w ↦ code.rows_off c.args.c.now c.args.n c.args.rs.now C c.loop-row.row _ _ (c.loop-row.invariant C p) w.m-is (sym same ∙ w.if-marked.false)
     ]
 
