@@ -65,13 +65,13 @@ pub fn passes(cost: &[f64], cols: usize, max_cost: f64, row: usize, col: usize) 
     col < cols && cost[row * cols + col] <= max_cost
 }
 
-// The pairs that pass, in the first `used` places, and marks at their rows and columns.
+/// The pairs that pass, in the first `used` places, and marks at their rows and columns.
 #[derive(Clone, Copy)]
-struct Kept {
-    assignments: [Assignment; 64],
-    used: usize,
-    rows: [bool; 64],
-    cols: [bool; 64],
+pub struct Kept {
+    pub assignments: [Assignment; 64],
+    pub used: usize,
+    pub rows: [bool; 64],
+    pub cols: [bool; 64],
 }
 
 // The pairs that pass, by rising row.
