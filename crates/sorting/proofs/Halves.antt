@@ -80,9 +80,9 @@ module _ (keys : List Float) (L A : List ℕ) (m : ℕ) (hm : m ≤ length L) (n
     abbrev both : List ℕ
     both = put_mid m (length (A ++ drop m L) - m) (A ++ drop m L) B
 
-    pub ends : (S C O : List ℕ) → C ≡ sets S 0 (merge_of keys (take m both) (take (length both - m) (drop m both))) → length L ≤ length S → O ≡ take (length L) C → O ≡ sort_of keys L
+    pub ends : (S C O : List ℕ) → C ≡ sets S 0 (merge_of keys (take m both) (take (length both - m) (drop m both))) → length L ≤ length S → O ≡ take (length both) C → O ≡ sort_of keys L
     ends S C O eC h eO =
         let s : length (sort_of keys L) ≡ length L = as_long keys L in
         let c : C ≡ sets S 0 (sort_of keys L) = eC ∙ ap (λ (l : List ℕ). sets S 0 (merge_of keys (take m both) l)) (tail_part m both) ∙ ap (sets S 0) merged_is in
         let f : C ≡ sort_of keys L ++ drop (0 + length (sort_of keys L)) S = c ∙ sets-eq (sort_of keys L) S 0 (let z : 0 + length (sort_of keys L) ≤ length S = omega arith in z) in
-        eO ∙ ap (take (length L)) f ∙ take_at (sort_of keys L) (drop (0 + length (sort_of keys L)) S) (length L) s
+        eO ∙ ap (λ (i : ℕ). take i C) len₂ ∙ ap (take (length L)) f ∙ take_at (sort_of keys L) (drop (0 + length (sort_of keys L)) S) (length L) s

@@ -1,27 +1,57 @@
--- The turns of the sort by insertion: an entry put before those above it, and what has been put in so far. Assumes nothing.
-use Rattle.std.proofs.Common.{◌≡◌, refl, sym, ap, ◌∙◌, Bool, true, false, not, cond, List, [], ◌∷◌, ◌++◌, ℕ, suc, ◌<◌, ◌≤◌, ◌+◌, ◌-◌, length, get_or, take, drop, arith, add-one}
+-- The turns of the sort by insertion: an entry moved down before those above it, and what has been put in so far. Assumes nothing.
+use Rattle.std.proofs.Common.{◌≡◌, refl, sym, ap, ◌∙◌, Bool, true, false, not, cond, List, [], ◌∷◌, ◌++◌, ℕ, zero, suc, ◌<◌, ◌≤◌, ◌+◌, ◌-◌, length, get_or, set, take, drop, arith, add-one}
 use Rattle.std.specs.List.{position_or_len}
 use Rattle.std.specs.List.{position}
-use Rattle.std.proofs.lemmas.List.{take-take, take-append-le, drop-append-le}
+use Rattle.std.proofs.lemmas.List.{take-take}
 use Rattle.std.proofs.lemmas.List.Sums.{prefix_len-le-length}
 use Rattle.std.specs.Option.{unwrap_or}
 use Rattle.std.specs.Prelude.{None, Some, nat_lt}
-use lib.Seq.{drop-cons, drop-length, take-length, take-suc, take_at, drop_at, length-take-le, get_or-take, drop-drop}
-use lib.ListN.{length-append}
-use mathlib.Core.List.{append-nil}
+use native.Mathlib.Nat.{le_of_suc-le-suc, not-suc-le-zero}
+use lib.Seq.{drop-cons, drop-length, take-length, take_at, drop_at, length-take-le, get_or-take}
 use borrow.Author.Tests.{ltb-false}
 use Rattle.sorting.proofs.Permutes.{put-length}
-use Rattle.sorting.proofs.MergeTurns.{tail_part}
 use lib.Ieee.{Float, lt}
 use Rattle.sorting.specs.Order.{key_of}
 use Rattle.sorting.specs.Sort.{put, put_all, sort_of}
+
+-- ---- m with k put in at i
+abbrev pub put_at : ℕ → ℕ → List ℕ → List ℕ
+put_at i k m = take i m ++ (k ∷ drop i m)
+
+-- the last entry of a run, where it stands
+pub stands : (i : ℕ) (l : List ℕ) → length l ≡ suc i → set l i (get_or l i 0) ≡ put_at i (get_or l i 0) (take i l)
+stands i [] h = absurd (let z : ⊥ = omega arith in z)
+stands zero (j ∷ []) h = refl
+stands zero (j ∷ (k ∷ l)) h = absurd (let z : ⊥ = omega arith in z)
+stands (suc i) (j ∷ l) h = ap (λ (m : List ℕ). j ∷ m) (stands i l (omega arith))
+
+abbrev swapped : ℕ → List ℕ → List ℕ
+swapped i l = set (set l (suc i) (get_or l i 0)) i (get_or l (suc i) 0)
+
+swap_of : (i : ℕ) (l : List ℕ) (k : ℕ) → suc i < length l → set (set l (suc i) (get_or l i 0)) i k ≡ swapped i (set l (suc i) k)
+swap_of i [] k h = absurd (not-suc-le-zero h)
+swap_of zero (a ∷ []) k h = absurd (not-suc-le-zero (le_of_suc-le-suc h))
+swap_of zero (a ∷ (b ∷ l)) k h = refl
+swap_of (suc i) (a ∷ l) k h = ap (λ (m : List ℕ). a ∷ m) (swap_of i l k (le_of_suc-le-suc h))
+
+swap_down : (i k : ℕ) (m : List ℕ) → suc i ≤ length m → swapped i (put_at (suc i) k m) ≡ put_at i k m
+swap_down i k [] h = absurd (not-suc-le-zero h)
+swap_down zero k (j ∷ m) h = refl
+swap_down (suc i) k (j ∷ m) h = ap (λ (l : List ℕ). j ∷ l) (swap_down i k m (le_of_suc-le-suc h))
+
+down_one : (i k : ℕ) (m l : List ℕ) → suc i ≤ length m → set l (suc i) k ≡ put_at (suc i) k m → suc i < length l → set (set l (suc i) (get_or l i 0)) i k ≡ put_at i k m
+down_one i k m l h q b = swap_of i l k b ∙ ap (swapped i) q ∙ swap_down i k m h
+
+-- a turn, from i to j, which is one less: k is to stand at j, and the entry there moves up
+pub slides : (i j k : ℕ) (m l : List ℕ) → i ≡ suc j → i ≤ length m → set l i k ≡ put_at i k m → i < length l → set (set l i (get_or l j 0)) j k ≡ put_at j k m
+slides i j k m l e h q b = rw e (down_one j k m l (rw e at h) (rw e at q) (rw e at b))
 
 module _ (keys : List Float) where
   -- the place before the first entry whose key is above that of k
   abbrev pub place : ℕ → List ℕ → ℕ
   place k m = position_or_len (λ j. lt (key_of keys k) (key_of keys j)) m
 
-  pub put_is : (k : ℕ) (m : List ℕ) → put keys k m ≡ take (place k m) m ++ (k ∷ drop (place k m) m)
+  pub put_is : (k : ℕ) (m : List ℕ) → put keys k m ≡ put_at (place k m) k m
   unfolding put
   put_is k [] = refl
   put_is k (j ∷ m) = go (lt (key_of keys k) (key_of keys j)) (put_is k m)
@@ -42,42 +72,29 @@ module _ (keys : List Float) where
       go p h true e = refl
       go p h false e = let f = ltb-false p (length m) e in omega arith
 
-  -- a run after `run[p..].rotate_right(1)`
-  abbrev pub rotated : ℕ → List ℕ → List ℕ
-  rotated p run = let s = take (length run - p) (drop p run) in drop (length s - 1) s ++ take (length s - 1) s
-
-  -- its last entry k stands at p then
-  turned : (m : List ℕ) (k p : ℕ) → p ≤ length m
-      → take p (m ++ (k ∷ [])) ++ (rotated p (m ++ (k ∷ [])) ++ drop (length (m ++ (k ∷ [])) - p) (drop p (m ++ (k ∷ [])))) ≡ take p m ++ (k ∷ drop p m)
-  turned m k p h =
-      let long = length-append m (k ∷ []) in
-      let back : drop p (m ++ (k ∷ [])) ≡ drop p m ++ (k ∷ []) = drop-append-le p m (k ∷ []) h in
-      let whole : take (length (m ++ (k ∷ [])) - p) (drop p (m ++ (k ∷ []))) ≡ drop p m ++ (k ∷ []) = tail_part p (m ++ (k ∷ [])) ∙ back in
-      let n : length (drop p m ++ (k ∷ [])) - 1 ≡ length (drop p m) = omega (arith, length-append (drop p m) (k ∷ [])) in
-      let all : p + (length (m ++ (k ∷ [])) - p) ≡ length (m ++ (k ∷ [])) = omega arith in
-      let none : drop (length (m ++ (k ∷ [])) - p) (drop p (m ++ (k ∷ []))) ≡ [] =
-      drop-drop (length (m ++ (k ∷ [])) - p) p (m ++ (k ∷ [])) ∙ ap (λ (i : ℕ). drop i (m ++ (k ∷ []))) all ∙ drop-length (m ++ (k ∷ [])) in
-      rw (whole, none, n, take-append-le p m (k ∷ []) h, take_at (drop p m) (k ∷ []) (length (drop p m)) refl, drop_at (drop p m) (k ∷ []) (length (drop p m)) refl)
-      (ap (λ (l : List ℕ). take p m ++ l) (append-nil (k ∷ drop p m)))
-
-  put_there : (run m : List ℕ) (k p : ℕ) (r : List ℕ) → run ≡ m ++ (k ∷ []) → p ≡ place k m → r ≡ rotated p run
-      → take p run ++ (r ++ drop (length run - p) (drop p run)) ≡ put keys k m
-  put_there run m k p r e ep er = rw (er, e, ep) (turned m k (place k m) (place-le k m) ∙ sym (put_is k m))
-
-  pub last_put : (run : List ℕ) (p : ℕ) (r : List ℕ) → 0 < length run
+  -- where the code finds it, of a run whose last entry is k
+  pub place_is : (run : List ℕ) (p : ℕ) → 0 < length run
       → p ≡ unwrap_or (position (λ j. lt (key_of keys (get_or run (length run - 1) 0)) (key_of keys j)) (take (length run - 1) run)) (length run - 1)
-      → r ≡ rotated p run
-      → take p run ++ (r ++ drop (length run - p) (drop p run)) ≡ put keys (get_or run (length run - 1) 0) (take (length run - 1) run)
-  last_put run p r h ep er =
-      let last : ℕ = length run - 1 in
+      → p ≡ place (get_or run (length run - 1) 0) (take (length run - 1) run)
+  place_is run p h ep =
       let k : ℕ = get_or run (length run - 1) 0 in
       let m : List ℕ = take (length run - 1) run in
-      let n : length run ≡ suc (length run - 1) = omega arith in
-      let e : run ≡ take (length run - 1) run ++ (get_or run (length run - 1) 0 ∷ []) =
-      sym (take-length run) ∙ ap (λ (i : ℕ). take i run) n ∙ take-suc run (length run - 1) 0 (omega arith) in
       let lm : length (take (length run - 1) run) ≡ length run - 1 = length-take-le (length run - 1) run (omega arith) in
-      put_there run m k p r e
-      (ep ∙ ap (λ (i : ℕ). unwrap_or (position (λ j. lt (key_of keys k) (key_of keys j)) m) i) (sym lm) ∙ found k m) er
+      ep ∙ ap (λ (i : ℕ). unwrap_or (position (λ j. lt (key_of keys k) (key_of keys j)) m) i) (sym lm) ∙ found k m
+
+  pub place_inside : (run : List ℕ) (p : ℕ) → 0 < length run → p ≡ place (get_or run (length run - 1) 0) (take (length run - 1) run) → p ≤ length run - 1
+  place_inside run p h e =
+      let a = place-le (get_or run (length run - 1) 0) (take (length run - 1) run) in
+      let lm : length (take (length run - 1) run) ≡ length run - 1 = length-take-le (length run - 1) run (omega arith) in
+      omega arith
+
+  pub last_put : (run r : List ℕ) (p : ℕ) → p ≡ place (get_or run (length run - 1) 0) (take (length run - 1) run)
+      → r ≡ put_at p (get_or run (length run - 1) 0) (take (length run - 1) run)
+      → r ≡ put keys (get_or run (length run - 1) 0) (take (length run - 1) run)
+  last_put run r p ep er =
+      let k : ℕ = get_or run (length run - 1) 0 in
+      let m : List ℕ = take (length run - 1) run in
+      er ∙ ap (λ (i : ℕ). put_at i k m) ep ∙ sym (put_is k m)
 
   -- ---- the sort's loop
   -- the first i entries are those of l that have been put in, and the rest is to come

@@ -33,14 +33,19 @@ fn first_above(keys: &[f64], order: &[u32], x: f64) -> Option<usize>
 }
 
 // A run with its last entry put before the first whose key is above its own.
+// Kept: a loop moves the others, as `rotate_right` is a call of memmove, which no archive for C asks for.
 fn put_last(keys: &[f64], run: &mut [u32])
     requires { 0 < length run.old }
     ensures { let last = length run.old - 1 in run.new ≡ put keys.now (slice_index run.old last) (take last run.old) }
 {
     let last = run.len() - 1;
-    let x = key_at(keys, run[last]);
+    let k = run[last];
+    let x = key_at(keys, k);
     let p = first_above(keys, &run[..last], x).unwrap_or(last);
-    run[p..].rotate_right(1);
+    for i in (p..last).rev() {
+        run[i + 1] = run[i];
+    }
+    run[p] = k;
 }
 
 // A short run in the order of its keys, by insertion.
@@ -81,6 +86,17 @@ fn merge(keys: &[f64], a: &[u32], b: &[u32], out: &mut [u32])
     }
 }
 
+// The front of one run over the whole of another.
+// Kept: a loop, as `copy_from_slice` is a call of memmove too.
+fn copy_front(from: &[u32], to: &mut [u32])
+    requires { length to.old ≤ length from.now }
+    ensures { to.new ≡ take (length to.old) from.now }
+{
+    for (i, place) in to.iter_mut().enumerate() {
+        *place = from[i];
+    }
+}
+
 // A run in the order of its keys: its halves sorted, then merged by way of scratch.
 fn sort_run(keys: &[f64], order: &mut [u32], scratch: &mut [u32])
     requires { Numbers keys.now order.old × (length order.old ≤ length scratch.old) }
@@ -96,7 +112,7 @@ fn sort_run(keys: &[f64], order: &mut [u32], scratch: &mut [u32])
     sort_run(keys, &mut order[mid..], scratch);
     let run = &order[..];
     merge(keys, &run[..mid], &run[mid..], scratch);
-    order.copy_from_slice(&scratch[..n]);
+    copy_front(scratch, order);
 }
 
 // A run of at most N entries in the order of its keys.

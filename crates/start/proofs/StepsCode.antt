@@ -1,19 +1,16 @@
 -- What one turn of the loops of steps A to C does. Assumes nothing.
-use Prim.Native.Nat.{ℕ, zero, suc, ◌+◌, ◌-◌, ◌*◌, ◌<◌, ◌≤◌}
+use Prim.Native.Nat.{ℕ, ◌+◌, ◌-◌, ◌*◌, ◌<◌, ◌≤◌}
 use mathlib.Core.Path.{◌≡◌, refl, sym, ap, ◌∙◌, subst}
 use mathlib.Core.Bool.{Bool, true, false, not, ◌&&◌}
 use mathlib.Core.List.{List}
 use native.Mathlib.Omega.{arith}
 use native.Mathlib.Nat.{suc-mul, mul-le-mul_right}
 use lib.ListN.{length, get_or, set, take, drop, length-take, length-drop}
-use lib.Seq.{get_or-take, get_or-drop, paste, paste-suc, paste-zero}
-use borrow.Rule.Slice.PartMut.{put_mid}
-use Rattle.std.proofs.lemmas.Slice.{put_mid-paste}
+use lib.Seq.{get_or-take, get_or-drop}
 use lib.Ieee.{Float, nan, inf}
 use borrow.Author.Tests.{le-ltb, lt-ltb}
 use Rattle.floats.specs.Float.{is_finite}
 use Rattle.square.specs.Square.{zero_at, in_row, along, least, line, over}
-use Rattle.square.specs.Index.{loop}
 use Rattle.square.proofs.Truth.{and_not_left, and_not_right, not_of_true, not_of_false}
 use Rattle.square.proofs.Index.{loop_more}
 use Rattle.square.proofs.Square.{line_same, over_more}
@@ -45,19 +42,6 @@ pub part_more : (m : List Float) (h w row : ℕ) (c₀ c c' : List Float) → le
     → c' ≡ over (row + 1) w (λ i j _. entry m w i j) c₀
 part_more m h w row c₀ c c' long l v e =
     over_more w (λ i j _. entry m w i j) row c₀ c c' v (e ∙ part_line m row w (omega (arith, row_part row h w l)) c)
-
--- a copy over a row's places, place by place
-module _ (src c : List Float) (row : ℕ) (fits : row * 64 + length src ≤ length c) where
-  paste_line : (k : ℕ) → k ≤ length src → paste c (row * 64) src k ≡ line (in_row row) k (λ j _. get_or src j nan) c
-  unfolding line loop
-  paste_line zero h = sym (paste-zero c (row * 64) src)
-  paste_line (suc k) h =
-      sym (paste-suc c (row * 64) src k nan (omega arith) (omega arith))
-      ∙ ap (λ (x : List Float). set x (row * 64 + k) (get_or src k nan)) (paste_line k (omega arith))
-
-pub row_copied : (src c : List Float) (row k : ℕ) (copied : List Float) → row * 64 + length src ≤ length c → copied ≡ src → k ≡ length src
-    → put_mid (row * 64) k c copied ≡ line (in_row row) (length src) (λ j _. get_or src j nan) c
-row_copied src c row k copied fits e l = put_mid-paste (row * 64) k c copied src (length src) e (sym l) refl ∙ paste_line src c row fits (length src) (omega arith)
 
 -- ---- B
 pub least_none : (p : ℕ → ℕ) (c : List Float) → inf false ≡ least_along p 0 c

@@ -9,13 +9,16 @@ ghost use Rattle.square.specs.Square.{in_row, along, line};
 ghost use Rattle.start.specs.Steps.{padded, least_along, less_by, lowered, rows_lowered, cols_lowered, pair_row, pair_rows, pairs_of};
 
 // One row of step A.
-#[tactic(auto, using(crate::proofs::StepsCode::row_copied))]
+// Kept: a loop, as `copy_from_slice` is a call of memmove, which no archive for C asks for.
+#[tactic(auto, using(square::proofs::Square::line_none, square::proofs::Square::line_more))]
 fn pad_row(src: &[f64], row: usize, c: &mut [f64])
     requires { (length src.now ≤ 64) × (row < 64) × (row * 64 + 64 ≤ length c.old) }
     ensures { c.new ≡ line (in_row row) (length src.now) (λ j _. get_or src.now j nan) c.old }
 {
     let first = row * 64;
-    c[first..first + src.len()].copy_from_slice(src);
+    for (j, x) in src.iter().enumerate() {
+        c[first + j] = *x;
+    }
 }
 
 /// Step A, into a square of zeros: each row is a part of the run.

@@ -12,4 +12,4 @@ returns t c =
     let room : length run ≤ length c.sort_run-2.new.scratch = omega arith in
     law.ends c.args.keys.now run c.sort_run.new.order (length run / 2) (law.half (length run)) c.requires.0
     c.sort_run.ensures c.sort_run-2.new.order c.sort_run-2.ensures c.sort_run-2.new.scratch c.merge.new.out
-    c.copy_from_slice.new.self c.merge.ensures room c.copy_from_slice.ensures.after
+    c.copy_front.new.to c.merge.ensures room c.copy_front.ensures
