@@ -9,7 +9,7 @@ ghost use Rattle.counts.specs.Counts.{same_id, room_for, one_if};
 const MOST: i32 = i32::MAX;
 
 /// Whether two ids are the same.
-// Kept: `same_id` may not change, and wrong versions of it are tried (must-fail/); a caller may as well write ==.
+// Kept: `same_id` may not change, and wrong versions of it are tried (must-fail/).
 pub fn same_id(a: i32, b: i32) -> bool
     ensures { result ≡ same_id a b }
 {
@@ -17,7 +17,7 @@ pub fn same_id(a: i32, b: i32) -> bool
 }
 
 /// Whether a counter is one that refusal 1 lets by.
-// Kept: `not_negative` may not change, and wrong versions of it are tried (must-fail/); a caller may as well write n >= 0.
+// Kept: `not_negative` may not change, and wrong versions of it are tried (must-fail/).
 pub fn not_negative(n: i32) -> bool
     ensures { result ≡ non_neg n }
 {
@@ -49,7 +49,7 @@ pub fn one_if(happened: bool) -> usize
 }
 
 /// A place, kept narrow, as an index.
-// Kept: `wide` may not change, and wrong versions of it are tried (must-fail/); a caller may as well write as usize.
+// Kept: `wide` may not change, and wrong versions of it are tried (must-fail/).
 pub fn wide(place: u32) -> usize
     ensures { result ≡ place }
 {
@@ -57,7 +57,7 @@ pub fn wide(place: u32) -> usize
 }
 
 /// Whether one of two things is so.
-// Kept: `either` may not change, and wrong versions of it are tried (must-fail/); a caller may as well write ||.
+// Kept: `either` may not change, and wrong versions of it are tried (must-fail/).
 pub fn either(a: bool, b: bool) -> bool
     ensures { result ≡ (a || b) }
 {

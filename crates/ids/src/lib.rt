@@ -18,7 +18,7 @@ pub enum Lookup {
 pub fn seek(ids: &[i32], id: i32) -> Lookup
     ensures { result ≡ seek_of ids.now id }
 {
-    match ids.iter().position(|own| *own == id) {
+    match ids.iter().position(|own| counts::same_id(*own, id)) {
         Some(at) => Lookup::At(at),
         None => Lookup::Absent,
     }
@@ -96,7 +96,7 @@ fn chain_lacks(ids: &[i32], links: &[u16; 1024], i: usize, last: u16, id: i32) -
     // Kept: an iterator would be no plainer, as each turn goes where the link of the one before leads.
     while at > 0 {
         let place = at - 1;
-        if ids[place] == id {
+        if counts::same_id(ids[place], id) {
             return false;
         }
         at = usize::from(links[place]);
@@ -108,7 +108,7 @@ fn chain_lacks(ids: &[i32], links: &[u16; 1024], i: usize, last: u16, id: i32) -
 fn bucket(id: i32) -> usize
     ensures { (result ≡ bucket_of id) × (result < 1024) }
 {
-    if id >= 0 {
+    if counts::not_negative(id) {
         return id as usize % 1024;
     }
     (-1 - id) as usize % 1024

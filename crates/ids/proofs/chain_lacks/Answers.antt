@@ -2,17 +2,16 @@
 use Rattle.std.proofs.Common.{rules, arith, ◌≡◌, ◌-◌, sym, true}
 use mir.Facts.{to_z-of_z}
 use Rattle.counts.specs.Counts.{same_id}
-use Rattle.counts.proofs.Ids.{same_refl}
 use Rattle.ids.specs.Chains.{id_at}
 use Rattle.ids.proofs.Chains.{walk_ends, walk_finds}
 use Rattle.ids.proofs.chain_lacks.Goals as goal
 
-pub returns-then-ids-place : goal.returns-then-ids-place
-returns-then-ids-place c =
+pub returns-then-same_id : goal.returns-then-same_id
+returns-then-same_id c =
     let h = c.loop-at.invariant.low in
     let z = c.loop-at-test.true in
-    let same : id_at c.args.ids.now (c.loop-at.at - 1) ≡ c.args.id = search rules in
-    sym (walk_finds c.args.ids.now c.args.id c.args.i c.requires.0 (c.loop-at.at - 1) (omega arith) (rw same (same_refl c.args.id)))
+    let same : same_id (id_at c.args.ids.now (c.loop-at.at - 1)) c.args.id ≡ true = search rules in
+    sym (walk_finds c.args.ids.now c.args.id c.args.i c.requires.0 (c.loop-at.at - 1) (omega arith) same)
 
 pub returns : goal.returns
 returns c =

@@ -1,5 +1,5 @@
 -- `ids::distinct_by_chains` meets its contract. The first i ids are on their chains, and differ. Assumes nothing.
-use Rattle.std.proofs.Common.{rules, arith, ◌≡◌, true, false, sym, ◌∙◌, ◌<◌, take, refl}
+use Rattle.std.proofs.Common.{rules, arith, ◌≡◌, true, false, sym, ◌<◌, take, refl}
 use Rattle.ids.specs.Ids.{seek_of, is_absent}
 use Rattle.ids.specs.Chains.{id_at, bucket_of}
 use Rattle.ids.proofs.Links.{linked_none, linked_more, all_apart, one_twice}
