@@ -139,7 +139,9 @@ impl TrackLifecycle {
     pub fn sound(self) -> bool
         ensures { result ≡ sound_counts self }
     {
-        self.tracked_frames >= 0 && self.detected_frames >= 0 && self.fragmentations >= 0
+        counts::not_negative(self.tracked_frames)
+            && counts::not_negative(self.detected_frames)
+            && counts::not_negative(self.fragmentations)
     }
 
     /// Whether no count would pass with a match.

@@ -25,7 +25,7 @@ pub struct Cells {
 pub fn partner_of(known: i32, partner: i32) -> Option<i32>
     ensures { result ≡ partner_of known partner }
 {
-    if known != 0 {
+    if !counts::same_id(known, 0) {
         return Some(partner);
     }
     None
@@ -45,7 +45,7 @@ impl From<Cells> for Slot {
                 tracked_frames: cells.tracked,
                 detected_frames: cells.detected,
                 fragmentations: cells.fragmentations,
-                was_matched: cells.matched != 0,
+                was_matched: !counts::same_id(cells.matched, 0),
             },
             partner: partner_of(cells.known, cells.partner),
         }

@@ -39,7 +39,7 @@ pub fn is_switch(last: Option<i32>, to: i32) -> bool
     let Some(before) = last else {
         return false;
     };
-    before != to
+    !counts::same_id(before, to)
 }
 
 #[tactic(auto, unfolding(crate::specs::Slots::missed_slot))]

@@ -109,10 +109,13 @@ pub fn totals_sound(t: Totals) -> bool
     ensures { result ≡ totals_sound (state_with [] t) }
 {
     // Kept: as in `room_for_all`.
-    all_three(t.frame_id >= 0, t.num_matches >= 0, t.num_misses >= 0)
-        && all_three(
-            t.num_false_positives >= 0,
-            t.num_switches >= 0,
-            t.num_objects >= 0,
-        )
+    all_three(
+        counts::not_negative(t.frame_id),
+        counts::not_negative(t.num_matches),
+        counts::not_negative(t.num_misses),
+    ) && all_three(
+        counts::not_negative(t.num_false_positives),
+        counts::not_negative(t.num_switches),
+        counts::not_negative(t.num_objects),
+    )
 }
