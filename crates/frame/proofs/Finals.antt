@@ -12,7 +12,8 @@ use lib.ListN.{length, take, length-set}
 use Rattle.counts.specs.Counts.{one_if}
 use Rattle.rows.specs.declared.ExtendedMOTAccumulator.{ExtendedMOTAccumulator}
 use Rattle.rows.specs.declared.Row.{Row}
-use Rattle.rows.specs.Rows.{Trial, row_spot, row_step, stepped, book_row, trial_after}
+use Rattle.rows.specs.declared.Trial.{Trial}
+use Rattle.rows.specs.Rows.{row_spot, row_step, stepped, book_row, trial_after}
 use Rattle.rows.proofs.Booking.{row_in}
 use Rattle.totals.specs.declared.Shares.{Shares}
 use Rattle.frame.specs.Frame.{next_frame, shares_of, room_for_all, raised_by, closed, frame_of}

@@ -28,7 +28,8 @@ use Rattle.slots.proofs.Kept.{booked_id, booked_sound}
 use Rattle.slots.proofs.Faults.{id_at, not_negative_reads, not_negative_is, sound_reads, sound_is}
 use Rattle.rows.specs.declared.ExtendedMOTAccumulator.{ExtendedMOTAccumulator}
 use Rattle.rows.specs.declared.Row.{Row}
-use Rattle.rows.specs.Rows.{Spot, Step, spot_of, step_of, row_spot, row_step, book_row, trial_after}
+use Rattle.rows.specs.declared.Step.{Step}
+use Rattle.rows.specs.Rows.{Spot, spot_of, step_of, row_spot, row_step, book_row, trial_after}
 use Rattle.totals.specs.declared.Shares.{Shares}
 use Rattle.frame.specs.Sound.{SoundState}
 use Rattle.frame.specs.Frame.{totals_sound, sound_state, next_frame, shares_of, room_for_all, raised_by, trial_no, closed, frame_of}

@@ -10,7 +10,8 @@ use Rattle.rows.specs.declared.ExtendedMOTAccumulator.{ExtendedMOTAccumulator}
 use Rattle.rows.specs.declared.Row.{Row}
 use Rattle.refusals.specs.declared.Refusal.{Refusal}
 use Rattle.refusals.specs.Refusals.{number_of}
-use Rattle.rows.specs.Rows.{Trial, trial_after}
+use Rattle.rows.specs.declared.Trial.{Trial}
+use Rattle.rows.specs.Rows.{trial_after}
 use Rattle.totals.specs.declared.Shares.{Shares}
 unfoldable pub use Rattle.totals.specs.Totals.{totals_sound, next_frame, room_for_all}
 pub use Rattle.totals.specs.Totals.{totals_of, state_with, new_totals, Few, shares_of, raised_totals}

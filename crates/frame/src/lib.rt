@@ -70,7 +70,8 @@ fn try_frame(
     let frame = totals::next_frame(s.frame_id);
     let trial = trial::book_rows(
         s, gt_ids, pred_ids, pair_rows, pair_cols, left_rows, pairs, lefts, frame,
-    )?;
+    );
+    trial.outcome()?;
     let by = Shares {
         matches: pairs,
         misses: lefts,

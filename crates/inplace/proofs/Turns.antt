@@ -1,5 +1,5 @@
 -- One row booked in a run, the log that it leaves, and the log put back. Assumes nothing.
-use mathlib.Core.Path.{◌≡◌, refl, sym, ap, ◌∙◌, subst}
+use mathlib.Core.Path.{◌≡◌, refl, sym, ap, ◌∙◌}
 use mathlib.Core.Bool.{Bool, true, false, ◌||◌}
 use mathlib.Core.List.{List}
 use Prim.Native.Nat.{ℕ, zero, suc, ◌+◌, ◌-◌, ◌*◌, ◌<◌, ◌≤◌}
@@ -7,18 +7,20 @@ use native.Mathlib.Omega.{arith}
 use native.Mathlib.Numerals.{add-one}
 use borrow.Author.Tests.{eqb-true, eqb-false}
 use lib.Dec.{eqb}
-use lib.IntN.{ℤ, pos}
+use lib.IntN.{ℤ}
 use lib.ListN.{length, get_or, set}
 use lib.Seq.{get_or-set_same, get_or-set_other}
 use Rattle.counts.specs.Counts.{one_if}
 use Rattle.slots.specs.declared.Slot.{Slot}
 use Rattle.slot_cells.specs.declared.Cells.{Cells}
 use Rattle.slot_cells.specs.Cells.{cells_of}
-use Rattle.columns.specs.Columns.{Within, cells_at, put, slots_of}
+use Rattle.columns.specs.Columns.{Within, cells_at, put}
 use Rattle.columns.proofs.Laws.{put_long, at_same, at_other, put_back, slots_long, put_slot}
 use Rattle.rows.specs.declared.ExtendedMOTAccumulator.{ExtendedMOTAccumulator}
 use Rattle.rows.specs.declared.Row.{Row}
-use Rattle.rows.specs.Rows.{Spot, Step, Trial, row_spot, row_step, with_slot, trial_of, trial_after}
+use Rattle.rows.specs.declared.Step.{Step}
+use Rattle.rows.specs.declared.Trial.{Trial}
+use Rattle.rows.specs.Rows.{row_spot, row_step, with_slot, trial_of, trial_after}
 use Rattle.rows.proofs.Booking.{row_in, one_more}
 use Rattle.frame.proofs.Finals.{trial_good}
 use Rattle.totals.specs.declared.Totals.{Totals}

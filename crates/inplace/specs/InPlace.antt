@@ -1,15 +1,12 @@
 -- A frame whose pairing is handed in, over a state whose table is a run of numbers. The run stands for `slots_of` of it.
-use Rattle.std.specs.Prelude.{Result, Ok, Err}
-use Rattle.std.specs.Prelude.{Bool, false, cond, List, [], ◌≡◌, ℕ, zero, suc, ◌+◌, ◌<◌, ◌≤◌, eqb, ℤ, pos, ◌+ℤ◌, get_or, Float}
-use Rattle.floats.specs.Float.{zero64}
+use Rattle.std.specs.Prelude.{cond, List, [], ◌≡◌, ℕ, zero, suc, ◌+◌, ◌<◌, ◌≤◌, eqb, ℤ, get_or, Float}
 use Rattle.slot_cells.specs.Cells.{cells_of}
 use Rattle.columns.specs.Columns.{cells_at, put, slots_of}
 use Rattle.rows.specs.declared.ExtendedMOTAccumulator.{ExtendedMOTAccumulator}
 use Rattle.rows.specs.declared.Row.{Row}
-use Rattle.refusals.specs.declared.Refusal.{Refusal}
-use Rattle.rows.specs.Rows.{Trial, row_spot, row_step, trial_of, trial_after, trial_answer}
-use Rattle.frame.specs.declared.Booked.{Booked}
-use Rattle.frame.specs.Frame.{next_frame, state_with, frame_of}
+use Rattle.rows.specs.Rows.{row_spot, row_step, trial_of, trial_after}
+use Rattle.totals.specs.declared.Shares.{Shares}
+use Rattle.frame.specs.Frame.{next_frame, state_with, room_for_all, frame_of}
 use Rattle.totals.specs.declared.Totals.{Totals}
 use Rattle.inplace.specs.declared.Tally.{Tally}
 use Rattle.inplace.specs.declared.Closed.{Closed}
@@ -37,21 +34,12 @@ pub record Logged (rows : ℕ → Row) (frame : ℤ) (run : List ℤ) (totals : 
   pub place : (j : ℕ) → j < k → get_or places j 0 ≡ place_of rows frame run totals j
   pub numbers : (j : ℕ) → j < k → cells_at log 64 j ≡ cells_at (table_after rows frame run totals j) 256 (place_of rows frame run totals j)
 
--- all rows on trial: the table that they leave, and what they come to
+-- all rows on trial
 pub record Tried (rows : ℕ → Row) (frame : ℤ) (run : List ℤ) (totals : Totals) (n : ℕ) (after : List ℤ) (places : List ℕ) (log : List ℤ) (r : Tally) : Type 0 where
   pub table : after ≡ table_after rows frame run totals n
-  pub trial : trial_of (state_of after r.totals) false false r.switches ≡ trial_after rows frame (state_of run totals) n
+  pub trial : trial_of (state_of after r.totals) r.full r.over r.switches ≡ trial_after rows frame (state_of run totals) n
   pub logged : Logged rows frame run totals places log n
   pub few : r.switches ≤ n
-
--- a trial that is refused: why, and the table as it came
-pub record Stopped (rows : ℕ → Row) (frame : ℤ) (run : List ℤ) (totals : Totals) (n : ℕ) (after : List ℤ) (r : Refusal) : Type 0 where
-  pub kept : after ≡ run
-  pub why : trial_answer (trial_after rows frame (state_of run totals) n) ≡ Err r
-
-abbrev pub Rows : (ℕ → Row) → ℤ → List ℤ → Totals → ℕ → List ℤ → List ℕ → List ℤ → Result Tally Refusal → Type 0
-Rows rows frame run totals n after places log (Ok r) = Tried rows frame run totals n after places log r
-Rows rows frame run totals n after places log (Err r) = Stopped rows frame run totals n after r
 
 -- a log put back, the latest row first
 unfoldable pub undone : List ℤ → List ℕ → List ℤ → ℕ → List ℤ
@@ -59,6 +47,10 @@ undone run places log zero = run
 undone run places log (suc k) = undone (put run 256 (get_or places k 0) (cells_at log 64 k)) places log k
 
 -- ---- the frame
+-- 5 before 7; the totals do not hang on the run
+unfoldable pub number_of : Tally → Shares → ℕ
+number_of t by = cond t.full 5 (cond t.over 7 (cond (room_for_all (state_with [] t.totals) by) 0 7))
+
 -- the run after a frame: written at 0, number by number what it was beside a refusal
 abbrev pub table_at : ℕ → (ℕ → Row) → List ℤ → Totals → ℕ → List ℤ
 table_at number rows run totals n = cond (eqb number 0) (table_after rows (next_frame totals.frame_id) run totals n) run

@@ -3,18 +3,23 @@
 #![tactic(auto)]
 
 ghost use Rattle.std.specs.Prelude.{◌≡◌, ℕ, ◌+◌, ◌<◌, ◌≤◌, length, get_or};
+ghost use Rattle.refusals.specs.Refusals.{outcome_of};
 ghost use Rattle.rows.specs.Rows.{Lies, row_at};
-ghost use Rattle.inplace.specs.InPlace.{Rows, undone, Framed};
+ghost use Rattle.frame.specs.Frame.{Few};
+ghost use Rattle.inplace.specs.InPlace.{Tried, undone, number_of, Framed};
 
 use refusals::Refusal;
 use slot_cells::Cells;
 use slots::Slot;
 use totals::{Shares, Totals};
 
-/// What came of a trial, beside the table.
+/// What came of a trial, beside the table: full where a new id found no place, over where a count would have passed.
+// Kept: flags beside the totals, as in `rows::Trial`.
 #[derive(Clone, Copy)]
 pub struct Tally {
     pub totals: Totals,
+    pub full: bool,
+    pub over: bool,
     pub switches: usize,
 }
 
@@ -26,8 +31,7 @@ pub struct Closed {
     pub totals: Totals,
 }
 
-/// The rows of a pairing, booked in order in the table. What stood at the place of each goes into the log, from which the table is put back
-/// where the rows are refused: where a new id finds no place, and else where a count would pass.
+/// The rows of a pairing, booked in order in the table, to the last one. What stood at the place of each goes into the log.
 fn book_rows(
     run: &mut [i32],
     totals: Totals,
@@ -41,12 +45,13 @@ fn book_rows(
     frame: i32,
     places: &mut [usize],
     log: &mut [i32],
-) -> Result<Tally, Refusal>
+) -> Tally
     requires used_bound { (totals.used ≤ 256) × (length run.old ≡ 2304) × (length places.old ≡ 64) × (length log.old ≡ 576) }
     requires lies { Lies (length gt_ids.now) (length pred_ids.now) pair_rows.now pair_cols.now left_rows.now pairs lefts }
-    ensures { Rows (row_at gt_ids.now pred_ids.now pair_rows.now pair_cols.now left_rows.now pairs) frame run.old totals (pairs + lefts) run.new places.new log.new result }
+    ensures { Tried (row_at gt_ids.now pred_ids.now pair_rows.now pair_cols.now left_rows.now pairs) frame run.old totals (pairs + lefts) run.new places.new log.new result }
 {
     let mut t = totals;
+    let mut full = false;
     let mut over = false;
     let mut switches: usize = 0;
     for k in 0..pairs + lefts {
@@ -54,28 +59,24 @@ fn book_rows(
             gt_ids, pred_ids, pair_rows, pair_cols, left_rows, pairs, lefts, k,
         );
         let found = ids::seek(&run[..t.used], row.id);
-        let Some(place) = rows::place_of(found, t.used) else {
-            undo(run, places, log, k);
-            return Err(Refusal::FullTable);
-        };
-        let at = place.at;
+        let place = rows::place_of(found, t.used);
+        let at = place.map_or(0, |place| place.at);
         let old = columns::read(run, 256, at);
         places[k] = at;
         columns::write(log, 64, k, old);
         let step = rows::book_at(place, Slot::from(old), t.used, row, frame);
         columns::write(run, 256, at, Cells::from(step.slot));
         t.used = step.used;
-        over |= step.over;
-        switches += usize::from(step.switched);
+        full = counts::either(full, step.full);
+        over = counts::either(over, step.over);
+        switches += counts::one_if(step.switched);
     }
-    if over {
-        undo(run, places, log, pairs + lefts);
-        return Err(Refusal::Overflow);
-    }
-    Ok(Tally {
+    Tally {
         totals: t,
+        full,
+        over,
         switches,
-    })
+    }
 }
 
 /// The last n rows of the log put back, the latest first.
@@ -86,6 +87,21 @@ fn undo(run: &mut [i32], places: &[usize], log: &[i32], n: usize)
     for k in (0..n).rev() {
         columns::write(run, 256, places[k], columns::read(log, 64, k));
     }
+}
+
+/// Why a frame is refused, by what came of its rows: a new id found no place, and else a count would pass.
+#[tactic(auto, unfolding(crate::specs::InPlace::number_of))]
+fn check(t: Tally, by: Shares) -> Result<(), Refusal>
+    requires { Few by }
+    ensures { outcome_of result ≡ number_of t by }
+{
+    if t.full {
+        return Err(Refusal::FullTable);
+    }
+    if t.over || !totals::room_for_all(t.totals, by) {
+        return Err(Refusal::Overflow);
+    }
+    Ok(())
 }
 
 /// A frame whose pairing is handed in: its rows booked in the table, and put back where the frame is refused.
@@ -110,7 +126,7 @@ pub fn book_frame(
     let frame = totals::next_frame(totals.frame_id);
     let mut places = [0usize; 64];
     let mut log = [0i32; 576];
-    let booked = book_rows(
+    let tally = book_rows(
         run,
         totals,
         gt_ids,
@@ -124,15 +140,6 @@ pub fn book_frame(
         &mut places,
         &mut log,
     );
-    let tally = match booked {
-        Ok(tally) => tally,
-        Err(refusal) => {
-            return Closed {
-                number: refusal.number(),
-                totals,
-            };
-        }
-    };
     let by = Shares {
         matches: pairs,
         misses: lefts,
@@ -140,15 +147,17 @@ pub fn book_frame(
         switches: tally.switches,
         objects: gt_ids.len(),
     };
-    if !totals::room_for_all(tally.totals, by) {
-        undo(run, &places, &log, pairs + lefts);
-        return Closed {
-            number: Refusal::Overflow.number(),
-            totals,
-        };
-    }
-    Closed {
-        number: 0,
-        totals: totals::raised_by(tally.totals, by, distance),
+    match check(tally, by) {
+        Ok(()) => Closed {
+            number: 0,
+            totals: totals::raised_by(tally.totals, by, distance),
+        },
+        Err(refusal) => {
+            undo(run, &places, &log, pairs + lefts);
+            Closed {
+                number: refusal.number(),
+                totals,
+            }
+        }
     }
 }

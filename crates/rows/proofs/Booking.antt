@@ -22,7 +22,9 @@ use Rattle.slots.proofs.Faults.{id_at}
 use Rattle.slots.proofs.Kept.{booked_id}
 use Rattle.rows.specs.declared.ExtendedMOTAccumulator.{ExtendedMOTAccumulator}
 use Rattle.rows.specs.declared.Row.{Row}
-use Rattle.rows.specs.Rows.{Spot, Step, Trial, spot_of, row_spot, step_of, row_step, with_slot, trial_of, stepped, book_row, trial_after}
+use Rattle.rows.specs.declared.Step.{Step}
+use Rattle.rows.specs.declared.Trial.{Trial}
+use Rattle.rows.specs.Rows.{Spot, spot_of, row_spot, step_of, row_step, with_slot, trial_of, stepped, book_row, trial_after}
 
 pub few_more : (b : Bool) (n k : ℕ) → n ≤ k → n + one_if b ≤ k + 1
 few_more true n k h = omega arith

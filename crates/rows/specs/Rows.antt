@@ -13,8 +13,8 @@ use Rattle.slots.specs.Slots.{BookedSlot, new_slot, no_slot, ids_of, booked_slot
 use Rattle.rows.specs.declared.ExtendedMOTAccumulator.{ExtendedMOTAccumulator}
 use Rattle.rows.specs.declared.Row.{Row}
 use Rattle.rows.specs.declared.Place.{Place}
-use Rattle.rows.specs.declared.Step.{Step as Made}
-use Rattle.rows.specs.declared.Trial.{Trial as Passed}
+use Rattle.rows.specs.declared.Step.{Step}
+use Rattle.rows.specs.declared.Trial.{Trial}
 
 -- frame 0, nothing counted, no slot in use
 abbrev pub new_state : ExtendedMOTAccumulator
@@ -51,21 +51,6 @@ pub record Spot : Type 0 where
   pub at : ℕ
   pub fresh : Bool
   pub full : Bool
-
--- what a row does to the table: the slot that stands at its spot then, and how many places are used
-pub record Step : Type 0 where
-  pub slot : Slot
-  pub used : ℕ
-  pub full : Bool
-  pub over : Bool
-  pub switched : Bool
-
--- a trial booking, which never stops: full where a new id found no place, over where a count would have passed
-pub record Trial : Type 0 where
-  pub state : ExtendedMOTAccumulator
-  pub full : Bool
-  pub over : Bool
-  pub switches : ℕ
 
 -- the id's own place, else the one after the used ones, else none: full
 unfoldable pub spot_of : Lookup → ℕ → Spot
@@ -117,14 +102,11 @@ unfoldable pub trial_after : (ℕ → Row) → ℤ → ExtendedMOTAccumulator �
 trial_after rows frame s zero = trial_of s false false 0
 trial_after rows frame s (suc k) = book_row frame (rows k) (trial_after rows frame s k)
 
+-- 5 before 7, by what came of all rows
+abbrev pub trial_outcome : Trial → Result (Unit {0}) Refusal
+trial_outcome t = cond t.full (Err FullTable) (cond t.over (Err Overflow) (Ok tt))
+
 -- ---- the same of what the code answers
 abbrev pub spot_answer : Option Place → Spot
 spot_answer None = record { at = 0; fresh = false; full = true }
 spot_answer (Some p) = record { at = p.at; fresh = p.fresh; full = false }
-
-abbrev pub step_answer : Made → Step
-step_answer p = record { slot = p.slot; used = p.used; full = false; over = p.over; switched = p.switched }
-
--- 5 before 7, by what came of all rows
-abbrev pub trial_answer : Trial → Result Passed Refusal
-trial_answer t = cond t.full (Err FullTable) (cond t.over (Err Overflow) (Ok (record { state = t.state; switches = t.switches })))

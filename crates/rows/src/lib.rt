@@ -3,9 +3,10 @@
 #![tactic(auto)]
 
 ghost use Rattle.std.specs.Prelude.{◌≡◌, ◌+◌, ◌<◌, ◌≤◌, length};
-ghost use Rattle.rows.specs.Rows.{new_state, Lies, row_at, spot_of, step_of, spot_answer, step_answer};
+ghost use Rattle.rows.specs.Rows.{new_state, Lies, row_at, spot_of, step_of, spot_answer, trial_outcome};
 
 use ids::Lookup;
+use refusals::Refusal;
 use slots::{Booked, Slot};
 
 /// What an accumulator has counted so far, and its table: the first used slots, in order of first booking.
@@ -55,22 +56,41 @@ pub struct Place {
     pub fresh: bool,
 }
 
-/// What a row does to the table: the slot that stands at its place then, and how many places are used. Where a count would have passed it
-/// is over, and the slot as it was: the rows go on, as a later one may find no place, which is the reason to give then.
-// Kept: a flag beside the slot, since a row that is over does not end the trial.
+/// What a row does to the table: the slot that stands at its place then, and how many places are used. Where it found no place it is full,
+/// where a count would have passed it is over, and the slot then as it was.
+// Kept: flags beside the slot, since a row that is full or over does not end the trial.
 #[derive(Clone, Copy)]
 pub struct Step {
     pub slot: Slot,
     pub used: usize,
+    pub full: bool,
     pub over: bool,
     pub switched: bool,
 }
 
-/// What came of a trial booking.
+/// A trial booking, which never stops: full where a new id found no place, over where a count would have passed.
+// Kept: flags beside the state, since `trial::book_rows` says of every frame what came of all its rows.
 #[derive(Clone, Copy)]
 pub struct Trial {
     pub state: ExtendedMOTAccumulator,
+    pub full: bool,
+    pub over: bool,
     pub switches: usize,
+}
+
+impl Trial {
+    /// Whether the rows can be kept: refused where a new id found no place, and else where a count would have passed.
+    pub fn outcome(&self) -> Result<(), Refusal>
+        ensures { result ≡ trial_outcome self.now }
+    {
+        if self.full {
+            return Err(Refusal::FullTable);
+        }
+        if self.over {
+            return Err(Refusal::Overflow);
+        }
+        Ok(())
+    }
 }
 
 /// The row that is booked as number k: matched rows in the order of the pairs, then missed rows.
@@ -121,12 +141,21 @@ pub fn place_of(found: Lookup, used: usize) -> Option<Place>
     Some(Place { at, fresh: false })
 }
 
-/// What a row does, given where it is booked and the slot that stands there.
+/// What a row does, given where it is booked and the slot that stands there; with no place nothing but that it is full.
 #[tactic(auto, unfolding(crate::specs::Rows::step_of))]
-pub fn book_at(place: Place, old: Slot, used: usize, row: Row, frame: i32) -> Step
+pub fn book_at(place: Option<Place>, old: Slot, used: usize, row: Row, frame: i32) -> Step
     requires { used ≤ 256 }
-    ensures { step_answer result ≡ step_of (spot_answer (Some place)) old used row frame }
+    ensures { result ≡ step_of (spot_answer place) old used row frame }
 {
+    let Some(place) = place else {
+        return Step {
+            slot: old,
+            used,
+            full: true,
+            over: false,
+            switched: false,
+        };
+    };
     let (before, used) = if place.fresh {
         (slots::new_slot(row.id, frame), used + 1)
     } else {
@@ -136,12 +165,14 @@ pub fn book_at(place: Place, old: Slot, used: usize, row: Row, frame: i32) -> St
         Some(Booked { slot, switched }) => Step {
             slot,
             used,
+            full: false,
             over: false,
             switched,
         },
         None => Step {
             slot: before,
             used,
+            full: false,
             over: true,
             switched: false,
         },
