@@ -1,7 +1,5 @@
 -- A word's value, digit by digit. Assumes nothing.
-use mathlib.Core.Path.{◌≡◌, refl, sym}
-use Rattle.std.proofs.lemmas.Bool.Decides.{nat_tests}
-use native.Mathlib.Omega.{arith}
+use mathlib.Core.Path.{◌≡◌, sym}
 use mathlib.Core.List.{List, ◌∷◌}
 use Prim.Native.Nat.{ℕ, ◌+◌, ◌*◌, ◌^◌, ◌≤◌, ◌<◌}
 use native.Mathlib.Numerals.{add-one}
@@ -9,7 +7,7 @@ use borrow.Author.Tests.{lt-ltb, le-ltb}
 use lib.ListN.{length, get_or, drop}
 use lib.Seq.{drop-cons, drop-length}
 use Rattle.std.proofs.Common.{Some, None}
-use Rattle.numerals.specs.Numbers.{digit_of, digit_found, value_from}
+use Rattle.numerals.specs.Numbers.{digit_of, value_from}
 
 step : (base v b d : ℕ) (bs : List ℕ) → d ≡ digit_of b → d < base → v * base + d < 2 ^ 64 → value_from base v (b ∷ bs) ≡ value_from base (v * base + d) bs
 unfolding value_from
@@ -23,28 +21,16 @@ full : (base v b d : ℕ) (bs : List ℕ) → d ≡ digit_of b → d < base → 
 unfolding value_from
 full base v b d bs e l m = rw (← e, lt-ltb d base l, le-ltb (v * base + d) (2 ^ 64) m)
 
--- what a digit is, and that there is none
-found_is : (b d : ℕ) → digit_found b ≡ Some d → d ≡ digit_of b
-unfolding digit_found
-found_is b d e = grind (arith, nat_tests)
+-- at place i of a word, where d is the byte's digit and v the value so far
+module _ (base v d i : ℕ) (w : List ℕ) (h : i < length w) (e : d ≡ digit_of (get_or w i 0)) where
+  pub next_digit : d < base → v * base + d < 2 ^ 64 → value_from base (v * base + d) (drop (i + 1) w) ≡ value_from base v (drop i w)
+  next_digit l m = rw (add-one i, drop-cons w i 0 h) (sym (step base v (get_or w i 0) d _ e l m))
 
-found_none : (b : ℕ) → digit_found b ≡ None → 16 ≤ digit_of b
-unfolding digit_found
-found_none b e = grind (arith, nat_tests)
+  pub no_digit : base ≤ d → value_from base v (drop i w) ≡ None
+  no_digit l = rw (drop-cons w i 0 h) (stop base v (get_or w i 0) d _ e l)
 
--- at place i of a word, where v is the value so far
-module _ (base v i : ℕ) (w : List ℕ) (h : i < length w) where
-  pub next_digit : (d : ℕ) → digit_found (get_or w i 0) ≡ Some d → d < base → v * base + d < 2 ^ 64 → value_from base (v * base + d) (drop (i + 1) w) ≡ value_from base v (drop i w)
-  next_digit d e l m = rw (add-one i, drop-cons w i 0 h) (sym (step base v (get_or w i 0) d _ (found_is _ d e) l m))
-
-  pub no_digit : digit_found (get_or w i 0) ≡ None → base ≤ 16 → None ≡ value_from base v (drop i w)
-  no_digit e l = rw (drop-cons w i 0 h) (sym (stop base v (get_or w i 0) _ _ refl (let k = found_none _ e in omega arith)))
-
-  pub other_digit : (d : ℕ) → digit_found (get_or w i 0) ≡ Some d → base ≤ d → None ≡ value_from base v (drop i w)
-  other_digit d e l = rw (drop-cons w i 0 h) (sym (stop base v (get_or w i 0) d _ (found_is _ d e) l))
-
-  pub too_large : (d : ℕ) → digit_found (get_or w i 0) ≡ Some d → d < base → 2 ^ 64 ≤ v * base + d → None ≡ value_from base v (drop i w)
-  too_large d e l m = rw (drop-cons w i 0 h) (sym (full base v (get_or w i 0) d _ (found_is _ d e) l m))
+  pub too_large : d < base → 2 ^ 64 ≤ v * base + d → value_from base v (drop i w) ≡ None
+  too_large l m = rw (drop-cons w i 0 h) (full base v (get_or w i 0) d _ e l m)
 
 pub no_more : (base v : ℕ) (w : List ℕ) → value_from base v (drop (length w) w) ≡ Some v
 unfolding value_from
