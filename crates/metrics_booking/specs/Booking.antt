@@ -1,10 +1,8 @@
 -- Document 01, "Lifecycles and events" and "Numbers given back": a frame of module 4 whose pairing is there, booked in any state.
-use Rattle.std.specs.Prelude.{cond, Result, Ok, Err, List, ℕ, ◌+◌, ◌≤◌, eqb, ltb, ℤ, length, take, Float}
-use Rattle.refusals.specs.declared.Refusal.{Refusal}
-use Rattle.refusals.specs.Refusals.{number_of}
+use Rattle.std.specs.Prelude.{◌≡◌, false, cond, Some, List, ℕ, ◌+◌, ◌-◌, ◌≤◌, eqb, ltb, ℤ, length, take, Float}
 use Rattle.events.specs.declared.Event.{Event}
 use Rattle.seen.specs.Seen.{SeenHypotheses}
-use Rattle.seen.specs.Seen.{seen_hypotheses}
+use Rattle.seen.specs.Seen.{seen_hypotheses, hypotheses_seen}
 use Rattle.partners.specs.Partners.{Booked}
 use Rattle.partners.specs.Partners.{SeenTruths}
 use Rattle.partners.specs.declared.Truths.{Truths}
@@ -13,6 +11,7 @@ use Rattle.greedy.specs.declared.Pairing.{Pairing}
 use Rattle.booking.specs.Booking.{events_of, log_after}
 use Rattle.metrics.specs.declared.MOTAccumulator.{MOTAccumulator}
 use Rattle.metrics_booking.specs.declared.Updated.{Updated}
+use Rattle.metrics_booking.specs.declared.Tables.{Tables}
 
 -- used counts within the capacities: what the inner layer needs of a sound state
 pub record Within (s : MOTAccumulator) : Type 0 where
@@ -26,11 +25,6 @@ refused_at number s = record { number = number; state = s }
 
 abbrev pub closed_at : ℕ → MOTAccumulator → MOTAccumulator → Updated
 closed_at number s next = record { number = number; state = cond (eqb number 0) next s }
-
--- an answer, read as what a call gives
-abbrev pub updated : MOTAccumulator → Result MOTAccumulator Refusal → Updated
-updated s (Ok next) = record { number = 0; state = next }
-updated s (Err r) = refused_at (number_of r) s
 
 -- ---- a pairing, booked
 -- "It records seen ids on empty sides also": all ids of both sides, before the pairs are looked at
@@ -51,3 +45,12 @@ book_of s frame truths hypotheses distances p =
     let t = seen_truths s.truths truths in
     let b = matched_by t.truths truths hypotheses p in
     booked_with s t (seen_hypotheses s.hypotheses hypotheses) b (events_of frame truths hypotheses distances p b.switched)
+
+-- ---- a frame that nothing refuses
+-- what it leaves in the tables: all its ids are seen, its pairs are booked, and its events find room in the log
+pub record Accepted (s : MOTAccumulator) (gt hyp : List ℤ) (p : Pairing) (t : Tables) : Type 0 where
+  pub truths_fit : (seen_truths s.truths gt).full ≡ false
+  pub truths_are : t.truths ≡ (matched_by (seen_truths s.truths gt).truths gt hyp p).truths
+  pub switched_are : t.switched ≡ (matched_by (seen_truths s.truths gt).truths gt hyp p).switched
+  pub hypotheses_are : hypotheses_seen s.hypotheses (Some t.hypotheses) ≡ seen_hypotheses s.hypotheses hyp
+  pub room : s.log.used + (length gt + length hyp - p.used) ≤ 1024

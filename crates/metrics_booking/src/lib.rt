@@ -2,14 +2,16 @@
 //! Ported from norfair-rs, metrics/accumulator.rs (NOTICE).
 #![tactic(auto)]
 
-ghost use Rattle.std.specs.Prelude.{◌≡◌, ◌*◌, ◌≤◌, length};
+ghost use Rattle.std.specs.Prelude.{◌≡◌, ◌*◌, ◌≤◌, List, ℤ, Float, length, IfOk, IfErr};
+ghost use Rattle.refusals.specs.Refusals.{number_of};
 ghost use Rattle.greedy.specs.Greedy.{Fitting};
-ghost use Rattle.metrics_booking.specs.Booking.{Within, updated, book_of};
+ghost use Rattle.metrics_booking.specs.Booking.{Within, refused_at, Accepted, book_of};
 
 use greedy::Pairing;
-use matches::Booked;
 use metrics::MOTAccumulator;
+use partners::Truths;
 use refusals::Refusal;
+use seen::Hypotheses;
 
 /// The number of an update, and the state: beside a refusal the one that came.
 // Kept: a refusal is a number beside the state at each public call, for C callers too.
@@ -19,34 +21,26 @@ pub struct Updated {
     pub state: MOTAccumulator,
 }
 
-impl Updated {
-    // The update of `s` that comes to `next`.
-    fn of(s: MOTAccumulator, next: Result<MOTAccumulator, Refusal>) -> Self
-        ensures { result ≡ updated s next }
-    {
-        match next {
-            Ok(state) => Self { number: 0, state },
-            Err(refusal) => Self {
-                number: refusal.number(),
-                state: s,
-            },
-        }
-    }
+// What a frame that nothing refuses leaves in the tables, and which of its pairs are switches.
+#[derive(Clone, Copy)]
+struct Tables {
+    truths: Truths,
+    switched: [bool; 64],
+    hypotheses: Hypotheses,
 }
 
-// The state after a frame. All its ids are seen first.
-fn next(
-    s: MOTAccumulator,
-    frame: i32,
+// The ids of a frame: all are seen first. (What it answers has no log, so that the log is copied as seldom as can be.)
+fn book_ids(
+    s: &MOTAccumulator,
     gt_ids: &[i32],
     hyp_ids: &[i32],
-    distances: &[f64],
-    p: Pairing,
-) -> Result<MOTAccumulator, Refusal>
-    requires within { Within s }
-    requires gt_ids_len_bound { (length gt_ids.now ≤ 64) × (length hyp_ids.now ≤ 64) × (length distances.now ≡ length gt_ids.now * length hyp_ids.now) }
-    requires fitting { Fitting (length gt_ids.now) (length hyp_ids.now) p }
-    ensures { updated s result ≡ book_of s frame gt_ids.now hyp_ids.now distances.now p }
+    p: &Pairing,
+) -> Result<Tables, Refusal>
+    requires within { Within s.now }
+    requires few { (length gt_ids.now ≤ 64) × (length hyp_ids.now ≤ 64) }
+    requires fitting { Fitting (length gt_ids.now) (length hyp_ids.now) p.now }
+    ensures accepted { IfOk result (λ t. Accepted s.now gt_ids.now hyp_ids.now p.now t) }
+    ensures refused { IfErr result (λ r. (frame : ℤ) (distances : List Float) → refused_at (number_of r) s.now ≡ book_of s.now frame gt_ids.now hyp_ids.now distances p.now) }
 {
     let Some(seen_truths) = partners::see_truths(s.truths, gt_ids) else {
         return Err(Refusal::FullTable);
@@ -59,24 +53,17 @@ fn next(
         return Err(Refusal::NoRoom);
     }
     let pairs = &p.pairs[..p.used];
-    // All its truth ids stand in the table by now: there is room for its matches.
-    let none = Booked {
-        truths: seen_truths,
-        switched: [false; 64],
+    let Some(booked) = matches::book_matches(seen_truths, pairs, gt_ids, hyp_ids) else {
+        // Not met: all its truth ids stand in the table by now, so there is room for its matches.
+        return Ok(Tables {
+            truths: seen_truths,
+            switched: [false; 64],
+            hypotheses,
+        });
     };
-    let booked = matches::book_matches(seen_truths, pairs, gt_ids, hyp_ids).unwrap_or(none);
-    let log = booking::book_frame(
-        s.log,
-        frame,
-        gt_ids,
-        hyp_ids,
-        distances,
-        p,
-        &booked.switched,
-    );
-    Ok(MOTAccumulator {
-        log,
+    Ok(Tables {
         truths: booked.truths,
+        switched: booked.switched,
         hypotheses,
     })
 }
@@ -96,5 +83,29 @@ pub fn book(
     requires fitting { Fitting (length gt_ids.now) (length hyp_ids.now) p }
     ensures { result ≡ book_of s frame gt_ids.now hyp_ids.now distances.now p }
 {
-    Updated::of(s, next(s, frame, gt_ids, hyp_ids, distances, p))
+    match book_ids(&s, gt_ids, hyp_ids, &p) {
+        Ok(t) => {
+            let log = booking::book_frame(
+                s.log,
+                frame,
+                gt_ids,
+                hyp_ids,
+                distances,
+                p,
+                &t.switched,
+            );
+            Updated {
+                number: 0,
+                state: MOTAccumulator {
+                    log,
+                    truths: t.truths,
+                    hypotheses: t.hypotheses,
+                },
+            }
+        }
+        Err(refusal) => Updated {
+            number: refusal.number(),
+            state: s,
+        },
+    }
 }
