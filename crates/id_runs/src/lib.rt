@@ -72,7 +72,7 @@ pub fn matched_ids(pairs: &[u32], object_ids: &[i32], w: usize) -> [i32; 64]
 {
     let mut ids = [0; 64];
     for (i, pair) in pairs.iter().enumerate() {
-        ids[i] = object_ids[*pair as usize / w];
+        ids[i] = object_ids[counts::wide(*pair) / w];
     }
     ids
 }

@@ -42,7 +42,7 @@ pub fn book_matches(
     let mut truths = t;
     let mut switched = [false; 64];
     for (i, pair) in pairs.iter().enumerate() {
-        let k = *pair as usize;
+        let k = counts::wide(*pair);
         let id = object_ids[k / columns];
         let to = hypothesis_ids[k % columns];
         let found = ids::seek(&truths.ids[..truths.used], id);

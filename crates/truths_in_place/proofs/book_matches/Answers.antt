@@ -1,5 +1,5 @@
 -- `truths_in_place::book_matches` meets its contract. The pairs passed are booked in the run, and the rest are to come. Assumes nothing.
-use Rattle.std.proofs.Common.{rules, ◌≡◌, refl, ap, ◌∙◌, ◌+◌, ◌<◌, arith, length, get_or, ◌/◌, ◌%◌, pos, ℕ, w32}
+use Rattle.std.proofs.Common.{rules, ◌≡◌, ap, ◌∙◌, ◌+◌, ◌<◌, arith, length, get_or, ◌/◌, ◌%◌, pos, ℕ, w32}
 use lib.ListN.{length-map}
 use mir.Val.{SFits}
 use mir.Facts.{to_z-of_z}
@@ -11,13 +11,13 @@ use Rattle.truths_in_place.proofs.book_matches.Goals as goal
 use Rattle.truths_in_place.proofs.book_matches.Goals.{After-place_of-at}
 
 -- its two ids
-ends : (c : After-place_of-at) → Ends c.args.object_ids.now c.args.hypothesis_ids.now (get_or c.args.pairs.now c.loop-i.i 0) (get_or c.args.pairs.now c.loop-i.i 0)
+ends : (c : After-place_of-at) → Ends c.args.object_ids.now c.args.hypothesis_ids.now c.wide-k.result (get_or c.args.pairs.now c.loop-i.i 0)
 ends c =
-    let k = get_or c.args.pairs.now c.loop-i.i 0 in
+    let k = c.wide-k.result in
     let w = length c.args.hypothesis_ids.now in
     let s : Small (get_or c.args.object_ids.now (k / w) (pos 0)) = search rules in
     let u : Small (get_or c.args.hypothesis_ids.now (k % w) (pos 0)) = search rules in
-    ends_at c.args.object_ids.now c.args.hypothesis_ids.now k k refl s u
+    ends_at c.args.object_ids.now c.args.hypothesis_ids.now k (get_or c.args.pairs.now c.loop-i.i 0) c.wide-k.ensures s u
 
 -- its place in the table
 place : (c : After-place_of-at) → c.place_of-at.result < 256
