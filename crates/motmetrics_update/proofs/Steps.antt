@@ -9,7 +9,7 @@ use lib.ListN.{length}
 use lib.Ieee.{Float}
 use native.Mathlib.Omega.{arith}
 use Rattle.std.specs.Prelude.{Result, Ok, Err}
-use Rattle.std.specs.Result.{IsErrAnd}
+use Rattle.std.specs.Result.{IsErrAnd, IfErr}
 use Rattle.refusals.specs.declared.Refusal.{Refusal}
 use Rattle.refusals.specs.declared.Refusal.TheVariants.{Unsound, TooMany, Misfit, EmptyBox, FullTable, NoRoom, Overflow}
 use Rattle.refusals.specs.Refusals.{number_of}
@@ -27,7 +27,7 @@ use Rattle.motmetrics.specs.declared.MOTAccumulator.{MOTAccumulator}
 use Rattle.motmetrics.specs.State.{sound_state}
 use Rattle.motmetrics.proofs.Sound.{log_few, table_sound}
 use Rattle.motmetrics_update.specs.declared.Updated.{Updated}
-use Rattle.motmetrics_update.specs.Update.{refused_at, updated, matched_by, book_of, frame_after, update_of}
+use Rattle.motmetrics_update.specs.Update.{refused_at, matched_by, book_of, frame_after, update_of}
 
 -- ---- the booking
 module _ (s : MOTAccumulator) (frame : ℤ) (objects hypotheses : List ℤ) (distances : List Float) (p : Pairing) (f : Fitting (length objects) (length hypotheses) p)
@@ -59,10 +59,10 @@ some_number FullTable h = omega arith
 some_number NoRoom h = omega arith
 some_number Overflow h = omega arith
 
--- an update that passes on a refusal
-pub passed_on : (s : MOTAccumulator) (r : Result MOTAccumulator Refusal) (e : Refusal) → IsErrAnd r (λ (x : Refusal). x ≡ e) → updated s r ≡ refused_at (number_of e) s
-passed_on s (Ok next) e h = absurd h
-passed_on s (Err x) e h = ap (λ (z : Refusal). refused_at (number_of z) s) h
+-- a refusal that is passed on
+pub passed_on : {A : Type 0} (r : Result A Refusal) (e : Refusal) (Q : Refusal → Type 0) → IsErrAnd r (λ (x : Refusal). x ≡ e) → Q e → IfErr r Q
+passed_on (Ok next) e Q h q = absurd h
+passed_on (Err x) e Q h q = subst Q (sym h) q
 
 -- ---- the frame
 module _ (s : MOTAccumulator) (frame : ℤ) (objects hypotheses : List ℤ) (distances : List Float) where

@@ -1,17 +1,17 @@
 -- Document 01, "Lifecycles and events" and "Numbers given back": the update of module 3's MOTAccumulator, from any state and any frame.
-use Rattle.std.specs.Prelude.{cond, Result, Ok, Err, List, ℕ, ◌+◌, eqb, ltb, ℤ, length, take, Float}
-use Rattle.refusals.specs.declared.Refusal.{Refusal}
-use Rattle.refusals.specs.Refusals.{number_of}
+use Rattle.std.specs.Prelude.{◌≡◌, cond, Some, List, ℕ, ◌+◌, ◌-◌, ◌≤◌, eqb, ltb, ℤ, length, take, Float}
 use Rattle.sizes.specs.Sizes.{shape_no}
 use Rattle.events.specs.declared.Event.{Event}
 use Rattle.partners.specs.Partners.{Booked}
 use Rattle.partners.specs.Partners.{pairs_of, booked_of}
+use Rattle.matches.specs.Matches.{pairs_booked}
 use Rattle.greedy.specs.declared.Pairing.{Pairing}
 use Rattle.greedy_pairs.specs.Pairs.{by_distance}
 use Rattle.booking.specs.Booking.{events_of, log_after}
 use Rattle.motmetrics.specs.declared.MOTAccumulator.{MOTAccumulator}
 use Rattle.motmetrics.specs.State.{sound_state}
 use Rattle.motmetrics_update.specs.declared.Updated.{Updated}
+use Rattle.motmetrics_update.specs.declared.Matched.{Matched}
 
 -- beside a refusal the state is the one that came
 abbrev pub refused_at : ℕ → MOTAccumulator → Updated
@@ -19,11 +19,6 @@ refused_at number s = record { number = number; state = s }
 
 abbrev pub closed_at : ℕ → MOTAccumulator → MOTAccumulator → Updated
 closed_at number s next = record { number = number; state = cond (eqb number 0) next s }
-
--- an answer, read as what a call gives
-abbrev pub updated : MOTAccumulator → Result MOTAccumulator Refusal → Updated
-updated s (Ok next) = record { number = 0; state = next }
-updated s (Err r) = refused_at (number_of r) s
 
 -- ---- a pairing, booked
 -- its pairs against the table of last matches, in their order
@@ -47,6 +42,14 @@ unfoldable pub frame_after : MOTAccumulator → ℤ → List ℤ → List ℤ �
 frame_after s frame objects hypotheses distances =
     let number = shape_no (length objects) (length hypotheses) (length distances) in
     cond (eqb number 0) (book_of s frame objects hypotheses distances (by_distance distances (length hypotheses))) (refused_at number s)
+
+-- what is booked of a frame that nothing refuses: it is in shape, its pairing is by distance, its pairs find places in the table, and
+-- its events find room in the log
+pub record Accepted (s : MOTAccumulator) (objects hypotheses : List ℤ) (distances : List Float) (m : Matched) : Type 0 where
+  pub shaped : 0 ≡ shape_no (length objects) (length hypotheses) (length distances)
+  pub paired : m.p ≡ by_distance distances (length hypotheses)
+  pub booked : pairs_booked s.last_match (Some m.booked) ≡ matched_by s objects hypotheses m.p
+  pub room : s.log.used + (length objects + length hypotheses - m.p.used) ≤ 1024
 
 -- THE UPDATE
 unfoldable pub update_of : MOTAccumulator → ℤ → List ℤ → List ℤ → List Float → Updated

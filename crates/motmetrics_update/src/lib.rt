@@ -2,9 +2,12 @@
 //! Ported from norfair-rs, internal/motmetrics/accumulator.rs, which follows py-motmetrics (NOTICE).
 #![tactic(auto)]
 
-ghost use Rattle.std.specs.Prelude.{◌≡◌, ◌≤◌};
-ghost use Rattle.motmetrics_update.specs.Update.{updated, frame_after, update_of};
+ghost use Rattle.std.specs.Prelude.{◌≡◌, ◌≤◌, ℤ, IfOk, IfErr};
+ghost use Rattle.refusals.specs.Refusals.{number_of};
+ghost use Rattle.motmetrics_update.specs.Update.{refused_at, Accepted, frame_after, update_of};
 
+use greedy::Pairing;
+use matches::Booked;
 use motmetrics::MOTAccumulator;
 use refusals::Refusal;
 
@@ -16,31 +19,23 @@ pub struct Updated {
     pub state: MOTAccumulator,
 }
 
-impl Updated {
-    // The update of `s` that comes to `next`.
-    fn of(s: MOTAccumulator, next: Result<MOTAccumulator, Refusal>) -> Self
-        ensures { result ≡ updated s next }
-    {
-        match next {
-            Ok(state) => Self { number: 0, state },
-            Err(refusal) => Self {
-                number: refusal.number(),
-                state: s,
-            },
-        }
-    }
+// What is booked of a frame that nothing refuses: its pairing, and what its pairs come to.
+#[derive(Clone, Copy)]
+struct Matched {
+    p: Pairing,
+    booked: Booked,
 }
 
-// The state after a frame.
-fn next(
-    s: MOTAccumulator,
-    frame_id: i32,
+// A frame tested, and its pairs booked in the table. (What it answers has no log, so that the log is copied as seldom as can be.)
+fn match_frame(
+    s: &MOTAccumulator,
     object_ids: &[i32],
     hypothesis_ids: &[i32],
     distances: &[f64],
-) -> Result<MOTAccumulator, Refusal>
-    requires { (s.log.used ≤ 1024) × (s.last_match.used ≤ 256) }
-    ensures { updated s result ≡ frame_after s frame_id object_ids.now hypothesis_ids.now distances.now }
+) -> Result<Matched, Refusal>
+    requires { (s.now.log.used ≤ 1024) × (s.now.last_match.used ≤ 256) }
+    ensures accepted { IfOk result (λ m. Accepted s.now object_ids.now hypothesis_ids.now distances.now m) }
+    ensures refused { IfErr result (λ r. (frame : ℤ) → refused_at (number_of r) s.now ≡ frame_after s.now frame object_ids.now hypothesis_ids.now distances.now) }
 {
     let rows = object_ids.len();
     let columns = hypothesis_ids.len();
@@ -54,19 +49,7 @@ fn next(
     if s.log.used + count > 1024 {
         return Err(Refusal::NoRoom);
     }
-    let log = booking::book_frame(
-        s.log,
-        frame_id,
-        object_ids,
-        hypothesis_ids,
-        distances,
-        p,
-        &booked.switched,
-    );
-    Ok(MOTAccumulator {
-        log,
-        last_match: booked.truths,
-    })
+    Ok(Matched { p, booked })
 }
 
 /// The update of a state that is sound already: nothing of its table is tested again. Of soundness it needs the used counts alone.
@@ -80,7 +63,30 @@ pub fn update_sound(
     requires { (s.log.used ≤ 1024) × (s.last_match.used ≤ 256) }
     ensures { result ≡ frame_after s frame_id object_ids.now hypothesis_ids.now distances.now }
 {
-    Updated::of(s, next(s, frame_id, object_ids, hypothesis_ids, distances))
+    match match_frame(&s, object_ids, hypothesis_ids, distances) {
+        Ok(m) => {
+            let log = booking::book_frame(
+                s.log,
+                frame_id,
+                object_ids,
+                hypothesis_ids,
+                distances,
+                m.p,
+                &m.booked.switched,
+            );
+            Updated {
+                number: 0,
+                state: MOTAccumulator {
+                    log,
+                    last_match: m.booked.truths,
+                },
+            }
+        }
+        Err(refusal) => Updated {
+            number: refusal.number(),
+            state: s,
+        },
+    }
 }
 
 /// The update of any state by any frame: the lowest number that applies, and the state.
@@ -94,7 +100,10 @@ pub fn update(
     ensures { result ≡ update_of s frame_id object_ids.now hypothesis_ids.now distances.now }
 {
     if !s.sound() {
-        return Updated::of(s, Err(Refusal::Unsound));
+        return Updated {
+            number: Refusal::Unsound.number(),
+            state: s,
+        };
     }
     update_sound(s, frame_id, object_ids, hypothesis_ids, distances)
 }

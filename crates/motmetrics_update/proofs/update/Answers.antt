@@ -7,7 +7,7 @@ use Rattle.motmetrics_update.proofs.update.Goals as goal
 
 pub returns-then-not-sound : goal.returns-then-not-sound
 returns-then-not-sound c =
-    c.of.ensures ∙ law.unsound c.args.s c.args.frame_id c.args.object_ids.now c.args.hypothesis_ids.now c.args.distances.now (sym c.sound.ensures ∙ not-true _ c.if-not-sound.true-raw)
+    rw c.number.ensures (law.unsound c.args.s c.args.frame_id c.args.object_ids.now c.args.hypothesis_ids.now c.args.distances.now (sym c.sound.ensures ∙ not-true _ c.if-not-sound.true-raw))
 
 pub update_sound-requires : goal.update_sound-requires
 update_sound-requires c = law.used_within _ (sym c.sound.ensures ∙ not-false _ c.if-not-sound.false-raw)
