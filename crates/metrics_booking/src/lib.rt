@@ -61,9 +61,10 @@ fn book_ids(
             hypotheses,
         });
     };
+    let switched = booked.switched;
     Ok(Tables {
         truths: booked.truths,
-        switched: booked.switched,
+        switched,
         hypotheses,
     })
 }
@@ -85,15 +86,7 @@ pub fn book(
 {
     match book_ids(&s, gt_ids, hyp_ids, &p) {
         Ok(t) => {
-            let log = booking::book_frame(
-                s.log,
-                frame,
-                gt_ids,
-                hyp_ids,
-                distances,
-                p,
-                &t.switched,
-            );
+            let log = booking::book_frame(s.log, frame, gt_ids, hyp_ids, distances, p, &t.switched);
             Updated {
                 number: 0,
                 state: MOTAccumulator {
