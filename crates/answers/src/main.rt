@@ -35,8 +35,8 @@ fn answer_request(s: &mut Session) -> Option<()> {
 
 // An empty line's answer is an empty line.
 fn answer_line(s: &mut Session) -> Option<()> {
-    if s.reader.end_line().is_some() {
-        return Some(());
+    if s.reader.peek() == b'\n' {
+        return s.reader.end_line();
     }
     answer_request(s)
 }

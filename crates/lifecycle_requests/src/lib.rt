@@ -11,7 +11,10 @@ pub fn flag(reader: &mut Reader) -> Option<bool> {
     match reader.count()? {
         0 => Some(false),
         1 => Some(true),
-        _ => None,
+        _ => {
+            reader.mark(true);
+            None
+        }
     }
 }
 

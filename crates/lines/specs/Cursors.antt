@@ -1,5 +1,5 @@
 -- What the reader and the writer keep from call to call. Assumes nothing.
-use Rattle.std.specs.Prelude.{◌≡◌, true, cond, List, ℕ, ◌+◌, ◌≤◌, ltb, length, take, get_or}
+use Rattle.std.specs.Prelude.{◌≡◌, Bool, true, cond, List, ℕ, ◌+◌, ◌≤◌, ltb, length, take, get_or}
 use Rattle.lines.specs.declared.input.Reader.{Reader}
 use Rattle.lines.specs.declared.output.Writer.{Writer}
 
@@ -12,12 +12,17 @@ pub record Within (r : Reader) : Type 0 where
 abbrev pub next_byte : Reader → ℕ
 next_byte r = cond (ltb r.at r.end) (get_or r.buf r.at 0) 10
 
+-- the same place, with or without a fault
+abbrev pub marked_of : Reader → Bool → Reader
+marked_of r fault = record r { fault = fault }
+
 -- the place of the byte after it
 abbrev pub passed_of : Reader → ℕ
 passed_of r = cond (ltb r.at r.end) (r.at + 1) r.at
 
--- what every read keeps: the input's end stays
+-- what every read keeps: a fault stays, and so does the input's end
 pub record Onward (r q : Reader) : Type 0 where
+  pub faults : r.fault ≡ true → q.fault ≡ true
   pub ends : r.over ≡ true → q.over ≡ true
   pub stays : Within r → Within q
 

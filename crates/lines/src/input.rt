@@ -1,5 +1,6 @@
-//! Standard input, word by word. Where the line does not say what is asked for, a method answers None; what it has read stays read.
-ghost use Rattle.std.specs.Prelude.{◌≡◌, false, ◌≤◌, length, IfSome, option_map};
+//! Standard input, word by word. Where the line does not say what is asked for, a method answers None, and what it has read stays read.
+//! That is a fault; it stays until the next line begins, and after it no word is read.
+ghost use Rattle.std.specs.Prelude.{◌≡◌, false, ◌≤◌, length, is_none, IfSome, option_map};
 ghost use Rattle.std.specs.Float.{binary64};
 ghost use Rattle.std.specs.Float.Ieee.{of_bits};
 ghost use Rattle.io.specs.Counts.{IsPrefixLen};
@@ -15,7 +16,7 @@ use wholes::whole_in;
 pub const LONGEST_RUN: usize = 8192;
 
 /// Standard input through a buffer, in which what was read and not yet passed lies from `at` up to `end`.
-// Kept: a buffer with its places and a flag beside it, which `Onward` and `Within` speak of by these names; the library crates have fixed memory and no heap.
+// Kept: a buffer with its places and two flags beside it, which `Onward` and `Within` speak of by these names; the library crates have fixed memory and no heap.
 #[derive(Drop)]
 pub struct Reader {
     pub stdin: Stdin,
@@ -24,6 +25,8 @@ pub struct Reader {
     pub end: usize,
     /// Nothing is left to read: the input has ended, or a read has failed.
     pub over: bool,
+    /// The line does not say what is asked of it; it stays so until the next line.
+    pub fault: bool,
     pub ghost inside: { at ≤ end },
     pub ghost held: { end ≤ 65536 },
 }
@@ -64,13 +67,14 @@ fn ends_word(b: u8) -> bool {
 }
 
 impl Reader {
-    ghost use Rattle.lines.specs.Cursors.{Within, Front, Onward, next_byte, passed_of};
+    ghost use Rattle.lines.specs.Cursors.{Within, Front, Onward, next_byte, marked_of, passed_of};
 
-    /// Nothing read yet, and nothing over.
+    /// Nothing read yet, nothing over, and no fault.
     pub fn new(stdin: Stdin) -> Reader
         ensures handle { result.stdin ≡ stdin }
         ensures places { (result.at ≡ 0) × (result.end ≡ 0) }
         ensures over { result.over ≡ false }
+        ensures fault { result.fault ≡ false }
     {
         Reader {
             stdin,
@@ -78,12 +82,21 @@ impl Reader {
             at: 0,
             end: 0,
             over: false,
+            fault: false,
         }
+    }
+
+    /// The same place, with or without a fault.
+    pub fn mark(&mut self, fault: bool)
+        ensures { self.new ≡ marked_of self.old fault }
+    {
+        self.fault = fault;
     }
 
     // Where all that was read is used up, more is read.
     fn fill(&mut self)
-        ensures { Onward self.old self.new }
+        ensures onward { Onward self.old self.new }
+        ensures fault { self.new.fault ≡ self.old.fault }
     {
         if self.at < self.end || self.over {
             return;
@@ -96,6 +109,7 @@ impl Reader {
     /// The byte that stands next, which is not passed; a line's end where the input is over.
     pub fn peek(&mut self) -> u8
         ensures onward { Onward self.old self.new × Within self.new }
+        ensures fault { self.new.fault ≡ self.old.fault }
         ensures byte_value { result ≡ next_byte self.new }
     {
         self.fill();
@@ -109,18 +123,22 @@ impl Reader {
     /// Past the byte that stands next, where one is left.
     pub fn pass(&mut self)
         ensures at { self.new.at ≡ passed_of self.old }
-        ensures kept { (self.new.stdin ≡ self.old.stdin) × (self.new.buf ≡ self.old.buf) × (self.new.end ≡ self.old.end) × (self.new.over ≡ self.old.over) }
+        ensures kept { (self.new.stdin ≡ self.old.stdin) × (self.new.buf ≡ self.old.buf) × (self.new.end ≡ self.old.end) × (self.new.over ≡ self.old.over) × (self.new.fault ≡ self.old.fault) }
     {
         if self.at < self.end {
             self.at += 1;
         }
     }
 
-    /// The bytes up to a space or the line's end, at the start of letters; None where they fill it.
+    /// The bytes up to a space or the line's end, at the start of letters; None where they fill it, and after a fault.
     pub fn first_word(&mut self, letters: &mut [u8]) -> Option<usize>
         ensures onward { Onward self.old self.new }
+        ensures fault { self.new.fault ≡ is_none result }
         ensures word { IfSome result (λ n. IsPrefixLen n letters.new) }
     {
+        if self.fault {
+            return None;
+        }
         for (n, letter) in letters.iter_mut().enumerate() {
             let b = self.peek();
             if ends_word(b) {
@@ -129,43 +147,53 @@ impl Reader {
             *letter = b;
             self.pass();
         }
+        self.mark(true);
         None
     }
 
-    /// The next word of the line, with a space before it.
+    /// The next word of the line, with a space before it; None where none stands there, and after a fault.
     pub fn next_word(&mut self, letters: &mut [u8]) -> Option<usize>
         ensures onward { Onward self.old self.new }
+        ensures fault { self.new.fault ≡ is_none result }
         ensures word { IfSome result (λ n. IsPrefixLen n letters.new) }
     {
-        if self.peek() != b' ' {
+        if self.fault || self.peek() != b' ' {
+            self.mark(true);
             return None;
         }
         self.pass();
         self.first_word(letters)
     }
 
+    // What the next word says; None where it says no such value.
     fn word<W: Word>(&mut self) -> Option<W>
-        ensures { Onward self.old self.new }
+        ensures onward { Onward self.old self.new }
+        ensures fault { self.new.fault ≡ is_none result }
     {
         let mut letters = [0u8; 64];
         let n = self.next_word(&mut letters)?;
-        W::said(&letters[..n])
+        let said = W::said(&letters[..n]);
+        self.mark(said.is_none());
+        said
     }
 
     pub fn float(&mut self) -> Option<f64>
-        ensures { Onward self.old self.new }
+        ensures onward { Onward self.old self.new }
+        ensures fault { self.new.fault ≡ is_none result }
     {
         self.word()
     }
 
     pub fn count(&mut self) -> Option<u64>
-        ensures { Onward self.old self.new }
+        ensures onward { Onward self.old self.new }
+        ensures fault { self.new.fault ≡ is_none result }
     {
         self.word()
     }
 
     pub fn whole(&mut self) -> Option<i32>
-        ensures { Onward self.old self.new }
+        ensures onward { Onward self.old self.new }
+        ensures fault { self.new.fault ≡ is_none result }
     {
         self.word()
     }
@@ -173,10 +201,12 @@ impl Reader {
     /// How many words or rows follow; None where they are more than `most`.
     pub fn length(&mut self, most: usize) -> Option<usize>
         ensures onward { Onward self.old self.new }
+        ensures fault { self.new.fault ≡ is_none result }
         ensures within { IfSome result (λ n. n ≤ most) }
     {
         let n = self.count()?;
         if n > most as u64 {
+            self.mark(true);
             return None;
         }
         Some(n as usize)
@@ -185,6 +215,7 @@ impl Reader {
     // A run's length and then its words, at the start of run; None where it is too long.
     fn run<W: Word>(&mut self, run: &mut [W], longest: usize) -> Option<usize>
         ensures onward { Onward self.old self.new }
+        ensures fault { self.new.fault ≡ is_none result }
         ensures front { IfSome result (λ n. Front n run.new × (n ≤ longest)) }
         ensures run_len_unchanged { length run.new ≡ length run.old }
     {
@@ -198,6 +229,7 @@ impl Reader {
     /// A run of floats, at the start of run; None where it is too long, for run too.
     pub fn floats(&mut self, run: &mut [f64]) -> Option<usize>
         ensures onward { Onward self.old self.new }
+        ensures fault { self.new.fault ≡ is_none result }
         ensures front { IfSome result (λ n. Front n run.new × (n ≤ 8192)) }
     {
         self.run(run, LONGEST_RUN)
@@ -206,6 +238,7 @@ impl Reader {
     /// A run of whole numbers, at the start of run; None where it is too long for that.
     pub fn wholes(&mut self, run: &mut [i32]) -> Option<usize>
         ensures onward { Onward self.old self.new }
+        ensures fault { self.new.fault ≡ is_none result }
         ensures front { IfSome result (λ n. Front n run.new) }
         ensures run_len_unchanged { length run.new ≡ length run.old }
     {
@@ -213,11 +246,13 @@ impl Reader {
         self.run(run, longest)
     }
 
-    /// Past the line's end; None where words are left, of which none is passed.
+    /// Past the line's end; None where words are left, of which none is passed, and after a fault.
     pub fn end_line(&mut self) -> Option<()>
-        ensures { Onward self.old self.new }
+        ensures onward { Onward self.old self.new }
+        ensures fault { self.new.fault ≡ is_none result }
     {
-        if self.peek() != b'\n' {
+        if self.fault || self.peek() != b'\n' {
+            self.mark(true);
             return None;
         }
         self.pass();

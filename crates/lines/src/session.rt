@@ -41,6 +41,7 @@ impl Session {
 
     /// One line after the other, up to the input's end or the first write that fails. `answer` writes what a line's answer is,
     /// and is None where the line does not say it: then its end is not passed yet, as what is left of the line is skipped.
+    /// A fault ends with its line.
     pub fn answer_lines<F: Fn(&mut Session) -> Option<()>>(&mut self, answer: F)
         requires { F.IsAlwaysCallable answer }
     {
@@ -48,6 +49,7 @@ impl Session {
             if !self.goes_on() {
                 break;
             }
+            self.reader.mark(false);
             let answered = answer(self);
             self.end_answer(answered);
         }

@@ -13,7 +13,10 @@ fn read_what(reader: &mut Reader) -> Option<What> {
         1 => Some(What::Switch(reader.whole()?, reader.whole()?, reader.float()?)),
         2 => Some(What::Miss(reader.whole()?)),
         3 => Some(What::FalsePositive(reader.whole()?)),
-        _ => None,
+        _ => {
+            reader.mark(true);
+            None
+        }
     }
 }
 
