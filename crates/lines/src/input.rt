@@ -17,7 +17,7 @@ pub const LONGEST_RUN: usize = 8192;
 
 /// Standard input through a buffer, in which what was read and not yet passed lies from `at` up to `end`.
 // Kept: a buffer with its places and two flags beside it, which `Onward` and `Within` speak of by these names; the library crates have fixed memory and no heap.
-#[derive(Drop)]
+#[derive(Clone, Copy)]
 pub struct Reader {
     pub stdin: Stdin,
     pub buf: [u8; 65536],

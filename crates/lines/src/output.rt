@@ -8,7 +8,7 @@ use wholes::size;
 
 /// The first `at` bytes of the buffer wait. Once a write has failed, nothing is written.
 // Kept: a buffer with its count and a flag beside it, which `Kept` speaks of by these names; the library crates have fixed memory and no heap.
-#[derive(Drop)]
+#[derive(Clone, Copy)]
 pub struct Writer {
     pub stdout: Stdout,
     pub buf: [u8; 65536],

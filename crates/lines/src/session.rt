@@ -7,7 +7,7 @@ const MOST_LINES: u64 = 0x100_0000_0000;
 
 /// A request reads its words and the line's end by `?`, and then writes; a sequence's frames are answered as they are read. None is a
 /// line that does not say it.
-#[derive(Drop)]
+#[derive(Clone, Copy)]
 pub struct Session {
     pub reader: Reader,
     pub writer: Writer,
