@@ -5,7 +5,7 @@ ghost use Rattle.std.specs.Prelude.{◌≤◌, length};
 
 use boxes::Box;
 use float_bits::computed;
-use lines::input::{LONGEST_RUN, Reader};
+use lines::input::Reader;
 use lines::output::Writer;
 use lines::session::Session;
 use refusals::Refusal;
@@ -69,19 +69,16 @@ fn filled_matrix<F: Fn(&[f64], &[f64], &mut [f64]) -> Result<(), Refusal>>(
 ) -> Option<()>
     requires { F.IsAlwaysCallable fill }
 {
-    let mut truth = [0.0; LONGEST_RUN];
-    let mut predicted = [0.0; LONGEST_RUN];
-    let mut places = [0.0; LONGEST_RUN];
-    let t = s.reader.floats(&mut truth)?;
-    let p = s.reader.floats(&mut predicted)?;
-    let k = s.reader.floats(&mut places)?;
+    let t = s.reader.floats(&mut s.first)?;
+    let p = s.reader.floats(&mut s.second)?;
+    let k = s.reader.floats(&mut s.third)?;
     s.reader.end_line()?;
     say_matrix(
         &mut s.writer,
         fill,
-        &truth[..t],
-        &predicted[..p],
-        &mut places[..k],
+        &s.first[..t],
+        &s.second[..p],
+        &mut s.third[..k],
     );
     Some(())
 }

@@ -3,18 +3,14 @@
 
 use extended_metrics::ExtendedMetrics;
 use frame::Booked;
-use lines::input::LONGEST_RUN;
 use lines::output::Writer;
 use lines::session::{Sequence, Session};
 use rows::ExtendedMOTAccumulator;
 
-// Where a sequence stands, and room for a frame's boxes.
-// Kept: two buffers of fixed memory, filled by two runs of which neither has the other's length.
+// Where a sequence stands.
 #[derive(Clone, Copy)]
 struct Played {
     state: ExtendedMOTAccumulator,
-    truth: [f64; LONGEST_RUN],
-    predicted: [f64; LONGEST_RUN],
 }
 
 // The number, the used count and the totals, and a space.
@@ -29,16 +25,16 @@ impl Sequence for Played {
         let mut truths = [0i32; 128];
         let mut predictions = [0i32; 128];
         let rows = s.reader.wholes(&mut truths)?;
-        let row_floats = s.reader.floats(&mut self.truth)?;
+        let row_floats = s.reader.floats(&mut s.first)?;
         let columns = s.reader.wholes(&mut predictions)?;
-        let column_floats = s.reader.floats(&mut self.predicted)?;
+        let column_floats = s.reader.floats(&mut s.second)?;
         let threshold = s.reader.float()?;
         let booked = extended::update(
             self.state,
             &truths[..rows],
-            &self.truth[..row_floats],
+            &s.first[..row_floats],
             &predictions[..columns],
-            &self.predicted[..column_floats],
+            &s.second[..column_floats],
             threshold,
         );
         say_frame(&mut s.writer, &booked);
@@ -59,8 +55,6 @@ pub fn extended(s: &mut Session) -> Option<()> {
     let start = state_requests::read_state(&mut s.reader)?;
     let mut played = Played {
         state: start.table,
-        truth: [0.0; LONGEST_RUN],
-        predicted: [0.0; LONGEST_RUN],
     };
     s.play(&mut played)?;
     s.reader.end_line()?;

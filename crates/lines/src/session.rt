@@ -1,16 +1,19 @@
 //! The reading and the writing of a program that answers a line at a time.
-use crate::input::Reader;
+use crate::input::{LONGEST_RUN, Reader};
 use crate::output::Writer;
 
 /// No more lines than these are answered.
 const MOST_LINES: u64 = 0x100_0000_0000;
 
 /// A request reads its words and the line's end by `?`, and then writes; a sequence's frames are answered as they are read. None is a
-/// line that does not say it.
+/// line that does not say it. The three runs are room that is made once: a request reads no more of them than it filled.
 #[derive(Clone, Copy)]
 pub struct Session {
     pub reader: Reader,
     pub writer: Writer,
+    pub first: [f64; LONGEST_RUN],
+    pub second: [f64; LONGEST_RUN],
+    pub third: [f64; LONGEST_RUN],
 }
 
 impl Session {
@@ -18,6 +21,9 @@ impl Session {
         Session {
             reader: Reader::new(rt.stdin()),
             writer: Writer::new(rt.stdout()),
+            first: [0.0; LONGEST_RUN],
+            second: [0.0; LONGEST_RUN],
+            third: [0.0; LONGEST_RUN],
         }
     }
 

@@ -2,7 +2,6 @@
 #![tactic(auto)]
 
 use getter_requests::say_getters;
-use lines::input::LONGEST_RUN;
 use lines::output::Writer;
 use lines::session::{Sequence, Session};
 use log_requests::{read_log, say_log};
@@ -10,13 +9,10 @@ use metrics::MOTAccumulator;
 use metrics_booking::Updated;
 use table_requests::{read_hypotheses, read_truths, say_hypotheses, say_truths};
 
-// Where a sequence stands, and room for a frame's boxes.
-// Kept: two buffers of fixed memory, filled by two runs of which neither has the other's length.
+// Where a sequence stands.
 #[derive(Clone, Copy)]
 struct Played {
     state: MOTAccumulator,
-    truth: [f64; LONGEST_RUN],
-    predicted: [f64; LONGEST_RUN],
 }
 
 // The number and the used counts, and a space.
@@ -35,16 +31,16 @@ impl Sequence for Played {
         let frame = s.reader.whole()?;
         let rows = s.reader.wholes(&mut truths)?;
         let columns = s.reader.wholes(&mut hypotheses)?;
-        let row_floats = s.reader.floats(&mut self.truth)?;
-        let column_floats = s.reader.floats(&mut self.predicted)?;
+        let row_floats = s.reader.floats(&mut s.first)?;
+        let column_floats = s.reader.floats(&mut s.second)?;
         let threshold = s.reader.float()?;
         let updated = metrics_update::update(
             self.state,
             frame,
             &truths[..rows],
             &hypotheses[..columns],
-            &self.truth[..row_floats],
-            &self.predicted[..column_floats],
+            &s.first[..row_floats],
+            &s.second[..column_floats],
             threshold,
         );
         say_frame(&mut s.writer, &updated);
@@ -63,8 +59,6 @@ pub fn metrics(s: &mut Session) -> Option<()> {
             truths: truths.table,
             hypotheses: hypotheses.table,
         },
-        truth: [0.0; LONGEST_RUN],
-        predicted: [0.0; LONGEST_RUN],
     };
     s.play(&mut played)?;
     s.reader.end_line()?;

@@ -1,7 +1,6 @@
 //! The requests of module 3's MOTAccumulator (oracle/PROTOCOL.md).
 #![tactic(auto)]
 
-use lines::input::LONGEST_RUN;
 use lines::output::Writer;
 use lines::session::{Sequence, Session};
 use log_requests::{read_log, say_log};
@@ -9,11 +8,10 @@ use motmetrics::{Computed, MOTAccumulator, MOTMetrics};
 use motmetrics_update::Updated;
 use table_requests::{read_truths, say_truths};
 
-// Where a sequence stands, and room for a frame's distances.
+// Where a sequence stands.
 #[derive(Clone, Copy)]
 struct Played {
     state: MOTAccumulator,
-    distances: [f64; LONGEST_RUN],
 }
 
 // The number and the used counts, and a space.
@@ -31,13 +29,13 @@ impl Sequence for Played {
         let frame = s.reader.whole()?;
         let rows = s.reader.wholes(&mut objects)?;
         let columns = s.reader.wholes(&mut hypotheses)?;
-        let n = s.reader.floats(&mut self.distances)?;
+        let n = s.reader.floats(&mut s.first)?;
         let updated = motmetrics_update::update(
             self.state,
             frame,
             &objects[..rows],
             &hypotheses[..columns],
-            &self.distances[..n],
+            &s.first[..n],
         );
         say_frame(&mut s.writer, &updated);
         self.state = updated.state;
@@ -71,7 +69,6 @@ pub fn mot(s: &mut Session) -> Option<()> {
             log: log.table,
             last_match: truths.table,
         },
-        distances: [0.0; LONGEST_RUN],
     };
     s.play(&mut played)?;
     s.reader.end_line()?;

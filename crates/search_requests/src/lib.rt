@@ -1,7 +1,6 @@
 //! The request of module 2: the solver (oracle/PROTOCOL.md).
 #![tactic(auto)]
 
-use lines::input::LONGEST_RUN;
 use lines::output::Writer;
 use lines::session::Session;
 use optimize::AssignmentResult;
@@ -37,13 +36,12 @@ fn say_result(w: &mut Writer, r: &AssignmentResult) {
 }
 
 pub fn linear_sum_assignment(s: &mut Session) -> Option<()> {
-    let mut costs = [0.0; LONGEST_RUN];
     let rows = s.reader.count()? as usize;
     let cols = s.reader.count()? as usize;
-    let n = s.reader.floats(&mut costs)?;
+    let n = s.reader.floats(&mut s.first)?;
     let max_cost = s.reader.float()?;
     s.reader.end_line()?;
-    let r = optimize::linear_sum_assignment(&costs[..n], rows, cols, max_cost);
+    let r = optimize::linear_sum_assignment(&s.first[..n], rows, cols, max_cost);
     say_result(&mut s.writer, &r);
     Some(())
 }
