@@ -85,9 +85,9 @@ impl MOTAccumulator {
     }
 
     // The events counted and summed, of a state that is sound.
-    fn tally(self) -> Tally
-        requires { sound_state self ≡ true }
-        ensures { (result ≡ tally_of (logged self.log)) × Few result }
+    fn tally(&self) -> Tally
+        requires { sound_state self.now ≡ true }
+        ensures { (result ≡ tally_of (logged self.now.log)) × Few result }
     {
         events::tallied(self.log.events, self.log.used)
     }
