@@ -64,7 +64,11 @@ fn from_first(keys: &[f64], a: &[u32], b: &[u32]) -> bool
     match (a.first(), b.first()) {
         (None, _) => false,
         (Some(_), None) => true,
-        (Some(p), Some(q)) => !(key_at(keys, *q) < key_at(keys, *p)),
+        (Some(p), Some(q)) => {
+            let x = key_at(keys, *p);
+            let y = key_at(keys, *q);
+            !(y < x)
+        }
     }
 }
 

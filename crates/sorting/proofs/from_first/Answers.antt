@@ -11,4 +11,4 @@ returns-in-Some-None c = let s = c.in-Some-None in no_second c.args.keys.now c.a
 pub returns-in-Some-Some : goal.returns-in-Some-Some
 returns-in-Some-Some c =
     let s = c.in-Some-Some in
-    both_there c.args.keys.now c.args.a.now c.args.b.now s.p.now s.q.now _ _ s.ensures.value s.ensures'.value c.key_at.ensures c.key_at-in-Some-Some.ensures
+    both_there c.args.keys.now c.args.a.now c.args.b.now s.p.now s.q.now _ _ s.ensures.value s.ensures'.value c.key_at-y.ensures c.key_at-x.ensures
