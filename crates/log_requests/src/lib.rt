@@ -4,7 +4,8 @@
 use events::{Event, Log, What};
 use lines::input::Reader;
 use lines::output::Writer;
-use lines::tables::{Given, places_shown};
+use lines::tables::Given;
+pub use lines::tables::places_shown;
 
 // The case from 0 to 3, the ids and the distance; None where the case is none.
 fn read_what(reader: &mut Reader) -> Option<What> {
