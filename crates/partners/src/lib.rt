@@ -32,7 +32,9 @@ impl Truths {
 pub fn truths_sound(t: Truths) -> bool
     ensures { result ≡ truths_sound t }
 {
-    seen::sound_up_to(&t.ids, t.used, 256)
+    // The ids alone are lent, so that no more than they is copied.
+    let ids = t.ids;
+    seen::sound_up_to(&ids, t.used, 256)
 }
 
 /// The table with a frame's truth ids, seen in order: one that is new has no partner yet. `None` where they would be more than 256.

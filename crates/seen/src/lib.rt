@@ -89,5 +89,6 @@ pub fn sound_up_to(ids: &[i32], used: usize, most: usize) -> bool
 pub fn hypotheses_sound(h: Hypotheses) -> bool
     ensures { result ≡ hypotheses_sound h }
 {
-    sound_up_to(&h.ids, h.used, 1024)
+    let ids = h.ids;
+    sound_up_to(&ids, h.used, 1024)
 }
