@@ -73,12 +73,13 @@ fn filled_matrix<F: Fn(&[f64], &[f64], &mut [f64]) -> Result<(), Refusal>>(
     let p = s.reader.floats(&mut s.second)?;
     let k = s.reader.floats(&mut s.third)?;
     s.reader.end_line()?;
+    let places = &mut s.third[..];
     say_matrix(
         &mut s.writer,
         fill,
         &s.first[..t],
         &s.second[..p],
-        &mut s.third[..k],
+        &mut places[..k],
     );
     Some(())
 }

@@ -53,9 +53,7 @@ fn say_metrics(w: &mut Writer, m: ExtendedMetrics) {
 
 pub fn extended(s: &mut Session) -> Option<()> {
     let start = state_requests::read_state(&mut s.reader)?;
-    let mut played = Played {
-        state: start.table,
-    };
+    let mut played = Played { state: start.table };
     s.play(&mut played)?;
     s.reader.end_line()?;
     say_metrics(
