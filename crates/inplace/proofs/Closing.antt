@@ -7,13 +7,16 @@ use native.Mathlib.Omega.{arith}
 use borrow.Author.Tests.{eq-eqb, ne_eqb}
 use lib.IntN.{ℤ}
 use lib.Ieee.{Float}
+use Rattle.std.specs.Prelude.{Err}
 use Rattle.refusals.specs.declared.Refusal.{Refusal}
 use Rattle.refusals.specs.declared.Refusal.TheVariants.{Unsound, TooMany, Misfit, EmptyBox, FullTable, NoRoom, Overflow}
 use Rattle.refusals.specs.Refusals.{number_of as refusal_no}
+use Rattle.rows.specs.declared.ExtendedMOTAccumulator.{ExtendedMOTAccumulator}
 use Rattle.rows.specs.declared.Row.{Row}
-use Rattle.rows.specs.Rows.{trial_of, trial_after}
+use Rattle.rows.specs.declared.Trial.{Trial}
+use Rattle.rows.specs.Rows.{trial_of, trial_after, trial_outcome}
 use Rattle.totals.specs.declared.Shares.{Shares}
-use Rattle.frame.specs.Frame.{next_frame, state_with, shares_of, room_for_all, raised_totals, raised_by, closed_at, closed, framed, frame_of}
+use Rattle.frame.specs.Frame.{next_frame, state_with, shares_of, room_for_all, raised_totals, raised_by, trial_no, closed_at, closed, framed, frame_of}
 use Rattle.totals.specs.declared.Totals.{Totals}
 use Rattle.inplace.specs.declared.Tally.{Tally}
 use Rattle.inplace.specs.InPlace.{state_of, number_of, table_after, Framed}
@@ -64,4 +67,27 @@ module _ (run : List ℤ) (totals : Totals) (rows : ℕ → Row) (pairs lefts ex
       record {
         booked = (λ i. record { number = sym z i; state = state_of after (w i) }) ∙ (sym (rw (eq-eqb n 0 z)) ∙ whole);
         table = t;
+      }
+
+-- ---- a refusal by the trial itself, whatever table reaches it
+number_by : (full over room : Bool) (u : ExtendedMOTAccumulator) (n : ℕ) (r : Refusal) → trial_outcome (trial_of u full over n) ≡ Err r
+    → refusal_no r ≡ trial_no (trial_of u full over n) room
+number_by true over room u n r e = let q : r ≡ FullTable = cc in ap refusal_no q
+number_by false true room u n r e = let q : r ≡ Overflow = cc in ap refusal_no q
+number_by false false room u n r e = let z : ◌≡◌ {A = ℕ} 0 1 = cc in absurd (omega arith)
+
+module _ (run : List ℤ) (totals : Totals) (rows : ℕ → Row) (pairs lefts extra objects : ℕ) (d : Float) where
+  abbrev all : Trial
+  all = trial_after rows (next_frame totals.frame_id) (state_of run totals) (pairs + lefts)
+
+  pub refused_by_trial : (r : Refusal) → trial_outcome all ≡ Err r → (kept : List ℤ) → kept ≡ run
+      → Framed run totals rows pairs lefts extra objects d kept (record { number = refusal_no r; totals = totals })
+  unfolding frame_of closed
+  refused_by_trial r e kept k =
+      let f = ne_eqb (refusal_no r) 0 (refusal_counts r) in
+      let q = number_by all.full all.over (room_for_all all.state (shares_of pairs lefts extra all.switches objects)) all.state all.switches r e in
+      record {
+        booked = (λ i. record { number = refusal_no r; state = state_of (k i) totals })
+            ∙ (sym (rw f) ∙ ap (λ (m : ℕ). closed_at m (state_of run totals) (raised_by all.state (shares_of pairs lefts extra all.switches objects) d)) q);
+        table = k ∙ sym (rw f);
       }
