@@ -29,14 +29,14 @@ fn answer(name: &[u8], s: &mut Session) -> Option<()> {
 
 fn answer_request(s: &mut Session) -> Option<()> {
     let mut letters = [0u8; 64];
-    let n = s.reader.first_word(&mut letters)?;
+    let n = s.reader.first_word_unless_fault(&mut letters)?;
     answer(&letters[..n], s)
 }
 
 // An empty line's answer is an empty line.
 fn answer_line(s: &mut Session) -> Option<()> {
     if s.reader.peek() == b'\n' {
-        return s.reader.end_line();
+        return s.reader.end_line_unless_fault();
     }
     answer_request(s)
 }

@@ -22,7 +22,7 @@ fn next_box(reader: &mut Reader) -> Option<Box> {
 fn box_pair(reader: &mut Reader) -> Option<(Box, Box)> {
     let a = next_box(reader)?;
     let b = next_box(reader)?;
-    reader.end_line()?;
+    reader.end_line_unless_fault()?;
     Some((a, b))
 }
 
@@ -72,7 +72,7 @@ fn filled_matrix<F: Fn(&[f64], &[f64], &mut [f64]) -> Result<(), Refusal>>(
     let t = s.reader.floats(&mut s.first)?;
     let p = s.reader.floats(&mut s.second)?;
     let k = s.reader.floats(&mut s.third)?;
-    s.reader.end_line()?;
+    s.reader.end_line_unless_fault()?;
     let places = &mut s.third[..];
     say_matrix(
         &mut s.writer,

@@ -55,7 +55,7 @@ pub fn extended(s: &mut Session) -> Option<()> {
     let start = state_requests::read_state(&mut s.reader)?;
     let mut played = Played { state: start.table };
     s.play(&mut played)?;
-    s.reader.end_line()?;
+    s.reader.end_line_unless_fault()?;
     say_metrics(
         &mut s.writer,
         extended_metrics::compute_extended_metrics(played.state),

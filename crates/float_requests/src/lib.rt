@@ -6,7 +6,7 @@ use lines::session::Session;
 
 fn read_one(s: &mut Session) -> Option<f64> {
     let x = s.reader.float()?;
-    s.reader.end_line()?;
+    s.reader.end_line_unless_fault()?;
     Some(x)
 }
 

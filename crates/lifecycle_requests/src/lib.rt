@@ -44,7 +44,7 @@ pub fn say_lifecycle(w: &mut Writer, it: TrackLifecycle) {
 pub fn lifecycle_new(s: &mut Session) -> Option<()> {
     let id = s.reader.whole()?;
     let frame = s.reader.whole()?;
-    s.reader.end_line()?;
+    s.reader.end_line_unless_fault()?;
     say_lifecycle(&mut s.writer, TrackLifecycle::new(id, frame));
     Some(())
 }
@@ -55,7 +55,7 @@ fn say_updated<F: Fn(TrackLifecycle, i32) -> Updated>(s: &mut Session, update: F
 {
     let it = read_lifecycle(&mut s.reader)?;
     let frame = s.reader.whole()?;
-    s.reader.end_line()?;
+    s.reader.end_line_unless_fault()?;
     let updated = update(it, frame);
     s.writer.decimal(u64::from(updated.number));
     s.writer.byte(b' ');
@@ -73,7 +73,7 @@ pub fn update_missed(s: &mut Session) -> Option<()> {
 
 pub fn coverage(s: &mut Session) -> Option<()> {
     let it = read_lifecycle(&mut s.reader)?;
-    s.reader.end_line()?;
+    s.reader.end_line_unless_fault()?;
     let c = it.coverage();
     s.writer.decimal(u64::from(c.number));
     s.writer.next_float(float_bits::computed(c.value));

@@ -1,6 +1,6 @@
 //! Standard input, word by word. Where the line does not say what is asked for, a method answers None, and what it has read stays read.
-//! That is a fault; it stays until the next line begins, and after it no word is read.
-ghost use Rattle.std.specs.Prelude.{◌≡◌, false, ◌≤◌, length, is_none, IfSome, option_map};
+//! That is a fault; it stays until the next line begins, and after it nothing is read but by `first_word`, `end_line` and `skip_line`.
+ghost use Rattle.std.specs.Prelude.{◌≡◌, false, ◌||◌, ◌≤◌, length, is_none, IfSome, option_map};
 ghost use Rattle.std.specs.Float.{binary64};
 ghost use Rattle.std.specs.Float.Ieee.{of_bits};
 ghost use Rattle.io.specs.Counts.{IsPrefixLen};
@@ -130,8 +130,21 @@ impl Reader {
         }
     }
 
-    /// The bytes up to a space or the line's end, at the start of letters; None where they fill it, and after a fault.
+    /// The bytes up to a space or the line's end, at the start of letters; None where they fill it. They are read after a fault too, which stays.
     pub fn first_word(&mut self, letters: &mut [u8]) -> Option<usize>
+        ensures onward { Onward self.old self.new }
+        ensures fault { self.new.fault ≡ (self.old.fault || is_none result) }
+        ensures word { IfSome result (λ n. IsPrefixLen n letters.new) }
+    {
+        let before = self.fault;
+        self.mark(false);
+        let word = self.first_word_unless_fault(letters);
+        self.mark(before || word.is_none());
+        word
+    }
+
+    /// The same, but None after a fault, and nothing read.
+    pub fn first_word_unless_fault(&mut self, letters: &mut [u8]) -> Option<usize>
         ensures onward { Onward self.old self.new }
         ensures fault { self.new.fault ≡ is_none result }
         ensures word { IfSome result (λ n. IsPrefixLen n letters.new) }
@@ -162,7 +175,7 @@ impl Reader {
             return None;
         }
         self.pass();
-        self.first_word(letters)
+        self.first_word_unless_fault(letters)
     }
 
     // What the next word says; None where it says no such value.
@@ -246,8 +259,20 @@ impl Reader {
         self.run(run, longest)
     }
 
-    /// Past the line's end; None where words are left, of which none is passed, and after a fault.
+    /// Past the line's end; None where words are left, of which none is passed. It is passed after a fault too, which stays.
     pub fn end_line(&mut self) -> Option<()>
+        ensures onward { Onward self.old self.new }
+        ensures fault { self.new.fault ≡ (self.old.fault || is_none result) }
+    {
+        let before = self.fault;
+        self.mark(false);
+        let ended = self.end_line_unless_fault();
+        self.mark(before || ended.is_none());
+        ended
+    }
+
+    /// The same, but None after a fault, and nothing passed.
+    pub fn end_line_unless_fault(&mut self) -> Option<()>
         ensures onward { Onward self.old self.new }
         ensures fault { self.new.fault ≡ is_none result }
     {

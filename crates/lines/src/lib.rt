@@ -5,3 +5,5 @@ pub mod input;
 pub mod output;
 pub mod session;
 pub mod tables;
+#[cfg(test)]
+mod tests;

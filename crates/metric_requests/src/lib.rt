@@ -61,7 +61,7 @@ pub fn metrics(s: &mut Session) -> Option<()> {
         },
     };
     s.play(&mut played)?;
-    s.reader.end_line()?;
+    s.reader.end_line_unless_fault()?;
     say_getters(&mut s.writer, played.state);
     say_log(&mut s.writer, &played.state.log, log.given);
     say_truths(&mut s.writer, &played.state.truths, truths.given);

@@ -71,7 +71,7 @@ pub fn mot(s: &mut Session) -> Option<()> {
         },
     };
     s.play(&mut played)?;
-    s.reader.end_line()?;
+    s.reader.end_line_unless_fault()?;
     say_metrics(&mut s.writer, &played.state.compute_metrics());
     say_log(&mut s.writer, &played.state.log, log.given);
     say_truths(&mut s.writer, &played.state.last_match, truths.given);

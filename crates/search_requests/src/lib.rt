@@ -40,7 +40,7 @@ pub fn linear_sum_assignment(s: &mut Session) -> Option<()> {
     let cols = s.reader.count()? as usize;
     let n = s.reader.floats(&mut s.first)?;
     let max_cost = s.reader.float()?;
-    s.reader.end_line()?;
+    s.reader.end_line_unless_fault()?;
     let r = optimize::linear_sum_assignment(&s.first[..n], rows, cols, max_cost);
     say_result(&mut s.writer, &r);
     Some(())

@@ -9,8 +9,8 @@ use numerals::digits::hex;
 // The line's word as a text; `?` where it is no pattern, None where it is too long or not the only one.
 fn answer_line(s: &mut Session) -> Option<()> {
     let mut word = [0u8; 64];
-    let n = s.reader.first_word(&mut word)?;
-    s.reader.end_line()?;
+    let n = s.reader.first_word_unless_fault(&mut word)?;
+    s.reader.end_line_unless_fault()?;
     match hex(&word[..n]) {
         Some(bits) => {
             let mut letters = [0u8; 320];
