@@ -1,5 +1,5 @@
 //! Standard input, word by word. Where the line does not say what is asked for, a method answers None, and what it has read stays read.
-//! That is a fault; it stays until the next line begins, and after it nothing is read but by `first_word`, `end_line` and `skip_line`.
+//! That is a fault; it stays until the next line begins, and after it no word is read but by `first_word`.
 ghost use Rattle.std.specs.Prelude.{◌≡◌, false, ◌||◌, ◌≤◌, length, is_none, IfSome, option_map};
 ghost use Rattle.std.specs.Float.{binary64};
 ghost use Rattle.std.specs.Float.Ieee.{of_bits};
